@@ -52,15 +52,6 @@ five_some true true false d e make p q r s t = absurd r
 five_some true false c d e make p q r s t = absurd q
 five_some false b c d e make p q r s t = absurd p
 
-five_none : (a b c d e : Bool) (make : T a → T b → T c → T d → T e → Date) → (T a → T b → T c → T d → T e → ⊥) → five a b c d e make ≡ None
-unfolding five
-five_none true true true true true make h = absurd (h tt tt tt tt tt)
-five_none true true true true false make h = refl
-five_none true true true false e make h = refl
-five_none true true false d e make h = refl
-five_none true false c d e make h = refl
-five_none false b c d e make h = refl
-
 date_cases : (a b c d e : Bool) (make : T a → T b → T c → T d → T e → Date) →
     ((p : T a) × (q : T b) × (r : T c) × (s : T d) × (t : T e) × (five a b c d e make ≡ Some (make p q r s t))) ⊎ (five a b c d e make ≡ None)
 unfolding five

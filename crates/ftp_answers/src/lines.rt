@@ -4,6 +4,7 @@ ghost use Rattle.std.specs.Prelude.{◌≡◌, ◌<◌, ◌∷◌, length, map, 
 ghost use Rattle.std.specs.Str.Lossy.{utf8_lossy};
 ghost use Rattle.ftp_answers.specs.Answers.{lines_in};
 
+use ftp_base::encoding::{Encoding, Utf8Encoding};
 use memchr::memchr;
 use std::alloc::{AllocError, Global};
 
@@ -19,7 +20,7 @@ pub fn lines_of(alloc: Global, body: &[u8]) -> Result<Vec<String>, AllocError>
     let mut rest = body;
     while !rest.is_empty() {
         let (line, more) = first_line(rest);
-        lines.push(String::from_utf8_lossy(alloc, line)?)?;
+        lines.push(Utf8Encoding.decode(alloc, line)?)?;
         rest = more;
     }
     Ok(lines)

@@ -26,7 +26,7 @@ kind_of AlreadyCompleted = kind.InvalidInput
 abbrev pub connection_text : ConnectionError → Option (List ℕ)
 connection_text (Io kind) = None
 connection_text UnexpectedEof = Some (codes "the connection was closed before the reply was whole")
-connection_text ReplyTooLarge = Some (codes "the reply is too large")
+connection_text ReplyTooLarge = Some (codes "the server sent a reply larger than 262144 bytes")
 connection_text LineBreak = Some (codes "a line break in the command")
 connection_text EncodedWithoutCrlf = Some (codes "the encoded command doesn't end in CR LF")
 connection_text EncodedLineBreak = Some (codes "a line break in the encoded command")

@@ -11,6 +11,7 @@ ghost use Rattle.ftp_base.specs.Encoding.{IsRefusal, encode_error_text};
 
 mod welcome;
 
+use bstr::ByteSlice;
 use std::alloc::{AllocError, Global};
 use std::error::Error;
 use std::fmt;
@@ -74,7 +75,7 @@ impl Encoding for Utf8Encoding {
     ghost encoded = { λ _ text. Ok text };
 
     fn decode(&self, alloc: Global, bytes: &[u8]) -> Result<String, AllocError> {
-        String::from_utf8_lossy(alloc, bytes)
+        bytes.to_str_lossy(alloc)?.into_owned(alloc)
     }
 
     fn encode(&self, alloc: Global, text: &str) -> Result<Vec<u8>, EncodeError> {

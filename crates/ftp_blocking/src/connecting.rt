@@ -1,16 +1,52 @@
-//! Clients over TCP sockets.
+//! Clients over TCP sockets, in clear or with TLS over them.
 
 use super::ImplFtpStream;
 use ftp_base::encoding::Encoding;
 use ftp_base::types::FtpResult;
+use ftp_secure::{DataStream, Secured, TlsConnector};
 use ftp_session::session::Session;
-use ftp_transport::{TcpConn, TcpTransport};
+use ftp_transport::{Conn, Network, TcpConn, TcpTransport, Transport};
+use std::alloc::Global;
 use std::net::{Net, SocketAddr, TcpListener, TcpStream, ToSocketAddrs};
 use std::time::{Clock, Duration};
 
-impl<K: Drop, E: Encoding, B: Drop> ImplFtpStream<TcpTransport, K, E, B> {
+/// A transport over TCP sockets: as they are, or with TLS over them.
+pub trait OverTcp: Network {
+    /// The transport over this one.
+    fn over_tcp(alloc: Global, transport: TcpTransport) -> Self
+    where
+        Self: Sized;
+
+    /// A connection over a socket that is connected.
+    fn over_socket(stream: TcpStream) -> Self::Conn;
+}
+
+impl OverTcp for TcpTransport {
+    fn over_tcp(_alloc: Global, transport: TcpTransport) -> TcpTransport {
+        transport
+    }
+
+    fn over_socket(stream: TcpStream) -> TcpConn {
+        TcpConn::new(stream)
+    }
+}
+
+impl<K: TlsConnector<TcpConn>> OverTcp for Secured<TcpTransport, K> {
+    fn over_tcp(alloc: Global, transport: TcpTransport) -> Secured<TcpTransport, K> {
+        Secured::new(alloc, transport)
+    }
+
+    fn over_socket(stream: TcpStream) -> DataStream<TcpConn, K::Stream> {
+        DataStream::Tcp(TcpConn::new(stream))
+    }
+}
+
+impl<Tr: OverTcp, K: Drop, E: Encoding, B: Drop> ImplFtpStream<Tr, K, E, B>
+where
+    Tr::Conn: Conn,
+{
     /// A client on the first of these addresses that accepts, in their order, once the server's greeting (220)
-    /// was read (RFC 959, section 5.4).
+    /// was read (RFC 959, section 5.4). Over [`Secured`] it is one that may be put under TLS.
     ///
     /// # Errors
     /// The last address's error where each failed, `NoAddress` where there is none; those of a read of one reply, and
@@ -18,10 +54,9 @@ impl<K: Drop, E: Encoding, B: Drop> ImplFtpStream<TcpTransport, K, E, B> {
     pub fn connect<R>(rt: &R, addresses: &[SocketAddr]) -> FtpResult<Self>
     where
         R: Net<Listener = TcpListener, Stream = TcpStream> + Clock + AllocGlobal,
+        Tr: Transport<R>,
     {
-        let alloc = rt.alloc();
-        let session = Session::connect(alloc, rt, TcpTransport::new(), addresses)?;
-        Self::new(alloc, session)
+        Self::connect_over(rt, TcpTransport::new(), addresses)
     }
 
     /// The same of an address as text, as `192.0.2.7:21`, `[2001:db8::7]:21` or `ftp.example.org:21`: a host and a port,
@@ -32,6 +67,7 @@ impl<K: Drop, E: Encoding, B: Drop> ImplFtpStream<TcpTransport, K, E, B> {
     pub fn connect_to<R>(rt: &R, address: &str) -> FtpResult<Self>
     where
         R: Net<Listener = TcpListener, Stream = TcpStream> + Clock + AllocGlobal,
+        Tr: Transport<R>,
     {
         let addresses: Vec<SocketAddr> = address.to_socket_addrs(rt)?.collect(rt.alloc())?;
         Self::connect(rt, &addresses)
@@ -45,9 +81,11 @@ impl<K: Drop, E: Encoding, B: Drop> ImplFtpStream<TcpTransport, K, E, B> {
     pub fn connect_lenient<R>(rt: &R, addresses: &[SocketAddr]) -> FtpResult<Self>
     where
         R: Net<Listener = TcpListener, Stream = TcpStream> + Clock + AllocGlobal,
+        Tr: Transport<R>,
     {
         let alloc = rt.alloc();
-        let session = Session::connect_lenient(alloc, rt, TcpTransport::new(), addresses)?;
+        let transport = Tr::over_tcp(alloc, TcpTransport::new());
+        let session = Session::connect_lenient(alloc, rt, transport, addresses)?;
         Self::new(alloc, session)
     }
 
@@ -63,9 +101,10 @@ impl<K: Drop, E: Encoding, B: Drop> ImplFtpStream<TcpTransport, K, E, B> {
     ) -> FtpResult<Self>
     where
         R: Net<Listener = TcpListener, Stream = TcpStream> + Clock + AllocGlobal,
+        Tr: Transport<R>,
     {
         let alloc = rt.alloc();
-        let session = Session::connect(alloc, rt, transport, addresses)?;
+        let session = Session::connect(alloc, rt, Tr::over_tcp(alloc, transport), addresses)?;
         Self::new(alloc, session)
     }
 
@@ -78,6 +117,7 @@ impl<K: Drop, E: Encoding, B: Drop> ImplFtpStream<TcpTransport, K, E, B> {
     pub fn connect_within<R>(rt: &R, addresses: &[SocketAddr], limit: Duration) -> FtpResult<Self>
     where
         R: Net<Listener = TcpListener, Stream = TcpStream> + Clock + AllocGlobal,
+        Tr: Transport<R>,
     {
         let limit = Some(limit);
         let transport = TcpTransport::with_limits(limit, limit, limit);
@@ -93,9 +133,11 @@ impl<K: Drop, E: Encoding, B: Drop> ImplFtpStream<TcpTransport, K, E, B> {
     pub fn connect_timeout<R>(rt: &R, address: SocketAddr, limit: Duration) -> FtpResult<Self>
     where
         R: Net<Listener = TcpListener, Stream = TcpStream> + Clock + AllocGlobal,
+        Tr: Transport<R>,
     {
         let alloc = rt.alloc();
-        let session = Session::connect_timeout(alloc, rt, TcpTransport::new(), address, limit)?;
+        let transport = Tr::over_tcp(alloc, TcpTransport::new());
+        let session = Session::connect_timeout(alloc, rt, transport, address, limit)?;
         Self::new(alloc, session)
     }
 
@@ -105,11 +147,8 @@ impl<K: Drop, E: Encoding, B: Drop> ImplFtpStream<TcpTransport, K, E, B> {
     /// Those of a read of one reply, and `OutOfMemory`. The connection is closed then.
     pub fn connect_with_stream<R: AllocGlobal>(rt: &R, stream: TcpStream) -> FtpResult<Self> {
         let alloc = rt.alloc();
-        let session = Session::connect_with_stream(
-            alloc,
-            TcpTransport::new(),
-            TcpConn::new(stream),
-        )?;
+        let transport = Tr::over_tcp(alloc, TcpTransport::new());
+        let session = Session::connect_with_stream(alloc, transport, Tr::over_socket(stream))?;
         Self::new(alloc, session)
     }
 
@@ -122,8 +161,9 @@ impl<K: Drop, E: Encoding, B: Drop> ImplFtpStream<TcpTransport, K, E, B> {
         stream: TcpStream,
     ) -> FtpResult<Self> {
         let alloc = rt.alloc();
-        let conn = TcpConn::new(stream);
-        let session = Session::connect_with_stream_lenient(alloc, TcpTransport::new(), conn)?;
+        let transport = Tr::over_tcp(alloc, TcpTransport::new());
+        let conn = Tr::over_socket(stream);
+        let session = Session::connect_with_stream_lenient(alloc, transport, conn)?;
         Self::new(alloc, session)
     }
 }

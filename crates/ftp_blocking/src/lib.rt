@@ -24,6 +24,7 @@ mod settings;
 mod transfer_stream;
 mod transfers;
 
+pub use connecting::OverTcp;
 pub use control_socket::ControlSocket;
 use ftp_base::encoding::{Encoding, Utf8Encoding};
 use ftp_base::types::{FtpError, FtpResult};

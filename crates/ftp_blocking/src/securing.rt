@@ -6,7 +6,7 @@ use ftp_base::types::FtpResult;
 use ftp_secure::{SecureTransport, Secured, TlsConnector};
 use ftp_session::session::Session;
 use ftp_transport::{Conn, TcpConn, TcpTransport};
-use std::net::{Net, SocketAddr, TcpListener, TcpStream, ToSocketAddrs};
+use std::net::{Net, SocketAddr, TcpListener, TcpStream};
 use std::sync::Wait;
 use std::time::Clock;
 
@@ -60,50 +60,6 @@ impl<K: TlsConnector<TcpConn>, E: Encoding, B: Drop> ImplFtpStream<
 where
     K::Stream: Conn,
 {
-    /// A client that may be put under TLS, on the first of these addresses that accepts, in their order, once the server's
-    /// greeting (220) was read (RFC 959, section 5.4).
-    ///
-    /// # Errors
-    /// The last address's error where each failed, `NoAddress` where there is none; those of a read of one reply, and
-    /// `OutOfMemory`. The connection is closed then.
-    pub fn connect<R>(rt: &R, addresses: &[SocketAddr]) -> FtpResult<Self>
-    where
-        R: Net<Listener = TcpListener, Stream = TcpStream> + Clock + AllocGlobal,
-    {
-        Self::connect_over(rt, TcpTransport::new(), addresses)
-    }
-
-    /// The same of an address as text, as `192.0.2.7:21`, `[2001:db8::7]:21` or `ftp.example.org:21`. A name is looked up
-    /// first, and its addresses are tried in turn.
-    ///
-    /// # Errors
-    /// Those of `connect`; before them the error of the look-up, or `Io(InvalidInput)` where the text is no address.
-    pub fn connect_to<R>(rt: &R, address: &str) -> FtpResult<Self>
-    where
-        R: Net<Listener = TcpListener, Stream = TcpStream> + Clock + AllocGlobal,
-    {
-        let addresses: Vec<SocketAddr> = address.to_socket_addrs(rt)?.collect(rt.alloc())?;
-        Self::connect(rt, &addresses)
-    }
-
-    /// The same over the caller's transport, as one with time limits (`TcpTransport::with_limits`), which makes the data
-    /// connections, too.
-    ///
-    /// # Errors
-    /// Those of `connect`; `Io(TimedOut)` where a limit passes, and `Io(InvalidInput)` where one is zero.
-    pub fn connect_over<R>(
-        rt: &R,
-        transport: TcpTransport,
-        addresses: &[SocketAddr],
-    ) -> FtpResult<Self>
-    where
-        R: Net<Listener = TcpListener, Stream = TcpStream> + Clock + AllocGlobal,
-    {
-        let alloc = rt.alloc();
-        let session = Session::connect(alloc, rt, Secured::new(alloc, transport), addresses)?;
-        Self::new(alloc, session)
-    }
-
     /// A client under TLS from its first byte on: connects to the first of these addresses that accepts, puts the connection
     /// under TLS, to a server of this name, and reads the greeting (220) on it. Data connections are put under TLS from then
     /// on; neither `PBSZ` nor `PROT` is sent.

@@ -33,14 +33,6 @@ own_drains (Twice command codes status next last) = refl
 pub drains_alike : (call : Call) → draining_row (row_of call Second) ≡ drains call
 drains_alike call = own_drains (own call)
 
--- and reads what is said of an abort where it does
-own_aborts : (o : Own) → aborting_row (at_turn o false) ≡ aborting_row (at_turn o true)
-own_aborts (Once row is) = refl
-own_aborts (Twice command codes status next last) = refl
-
-pub aborts_alike : (call : Call) → aborting_row (row_of call Second) ≡ aborts call
-aborts_alike call = own_aborts (own call)
-
 -- each row of a call's own is one that a call may have
 turn_is_own : (o : Own) (first : Bool) → is_own (at_turn o first) ≡ true
 turn_is_own (Once row is) first = is

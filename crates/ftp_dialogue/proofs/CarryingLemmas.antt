@@ -130,11 +130,6 @@ plain_entered call state plain goes_on =
     let F : Bool → Bool → State = λ b f. cond b (opened_from call state) (cond f (with_left state) state) in
     ap (λ b. F b (finishes call)) plain ∙ ap (λ f. F false f) goes_on
 
-pub closing_data_dialogue : (coding : Coding) (call : Call) (state : State) → negotiates call ≡ false → finishes call ≡ true → dialogue coding call state ≡ closing_data coding call (with_left state)
-closing_data_dialogue coding call state plain ends =
-    let F : Bool → Bool → Tree = λ b f. cond b (negotiating coding call state.settings.restart_offset (opened_from call state)) (cond f (closing_data coding call (with_left state)) (from_turn coding call First state)) in
-    ap (λ b. F b (finishes call)) plain ∙ ap (λ f. F false f) ends
-
 pub local_dialogue : (coding : Coding) (call : Call) (state : State) → is_local call ≡ true → dialogue coding call state ≡ from_turn coding call First state
 local_dialogue coding call state local = plain_dialogue coding call state (local_opens_none call local) (local_finishes_none call local)
 
@@ -272,18 +267,6 @@ set_ends link setting old new answer (inr (is, same)) =
     let A : Answer → Type 0 = λ a. Aborts link false tree a old old in
     inr (subst V (sym same) (subst A (sym is) (lacks_memory_first link tree old)))
 
-pub set_made : (link : Link) (coding : Coding) (setting : Setting) (old last new : SessionValue) (answer : Answer) → refusal_of (Set setting) old ≡ Taken → SetsTo setting old last answer → last.channel ≡ old.channel → LetsGo link.tells last new → Made link coding (Set setting) old new answer
-set_made link coding setting old last new answer taken sets same lets_go =
-    inr (record { going = taken; apart = λ local. ap (λ v. v.channel) (letting_beside link.tells last new lets_go) ∙ same; last = last; plays = set_ends link setting old last answer sets; lets_go = lets_go })
-
-pub read_made : (link : Link) (coding : Coding) (most : ℕ) (old last new : SessionValue) (answer : Answer) → refusal_of (Read most) old ≡ Taken → Carries link.tells (movement.Read most) old last answer → last.channel ≡ old.channel → LetsGo link.tells last new → Made link coding (Read most) old new answer
-read_made link coding most old last new answer taken carries same lets_go =
-    inr (record { going = taken; apart = λ local. ap (λ v. v.channel) (letting_beside link.tells last new lets_go) ∙ same; last = last; plays = carried_ends link (movement.Read most) old last answer carries; lets_go = lets_go })
-
-pub write_made : (link : Link) (coding : Coding) (bytes : List ℕ) (old last new : SessionValue) (answer : Answer) → refusal_of (Write bytes) old ≡ Taken → Carries link.tells (movement.Write bytes) old last answer → last.channel ≡ old.channel → LetsGo link.tells last new → Made link coding (Write bytes) old new answer
-write_made link coding bytes old last new answer taken carries same lets_go =
-    inr (record { going = taken; apart = λ local. ap (λ v. v.channel) (letting_beside link.tells last new lets_go) ∙ same; last = last; plays = carried_ends link (movement.Write bytes) old last answer carries; lets_go = lets_go })
-
 -- what is carried out leaves the control connection as it was
 pub carries_apart : (tells : Type 0) (moves : Movement) (old new : SessionValue) (answer : Answer) → Carries tells moves old new answer → new.channel ≡ old.channel
 carries_apart tells moves old new answer (inl made) = ap (λ v. v.channel) made.beside
@@ -319,31 +302,6 @@ closed_walks link coding call old new outcome told stage' ends beside tie told_i
     subst V (sym beside) (subst S (sym is) (closes_walks link coding call old new.net outcome ends tie))
 
 -- What is carried out
-
-pub carried_through : (tells : Type 0) (moves : Movement) (outcome : NetOutcome) (view old : SessionValue) (net' : Net) → view ≡ old → moves_nothing moves ≡ false → answers moves outcome ≡ true → (tells → MovedIs moves outcome view.net net') → IsApart (answer_moved moves outcome) → Carries tells moves old (record view { state = state_moved moves view.state; net = net' }) (answer_moved moves outcome)
-carried_through tells moves outcome view old net' is some fits tie apart =
-    let P : SessionValue → Type 0 = λ v. Carries tells moves v (record view { state = state_moved moves view.state; net = net' }) (answer_moved moves outcome) in
-    subst P is (inl (record { outcome = outcome; some = some; is = refl; beside = refl; net_event = λ h. (fits, tie h); apart = apart }))
-
-pub read_apart_answer : (most : ℕ) (outcome : NetOutcome) → answers (movement.Read most) outcome ≡ true → IsApart (moved_answer outcome)
-read_apart_answer most (came.Answered outcome) is = tt
-read_apart_answer most (came.Built fault) is = tt
-read_apart_answer most (came.Secured fault) is = tt
-read_apart_answer most (came.Read bytes) is = tt
-read_apart_answer most (came.Wrote count) is = tt
-read_apart_answer most came.Closed is = tt
-read_apart_answer most (came.Failed kind) is = inr (kind, refl)
-read_apart_answer most came.NoMemory is = inl refl
-
-pub write_apart_answer : (bytes : List ℕ) (outcome : NetOutcome) → answers (movement.Write bytes) outcome ≡ true → IsApart (moved_answer outcome)
-write_apart_answer bytes (came.Answered outcome) is = tt
-write_apart_answer bytes (came.Built fault) is = tt
-write_apart_answer bytes (came.Secured fault) is = tt
-write_apart_answer bytes (came.Read other) is = tt
-write_apart_answer bytes (came.Wrote count) is = tt
-write_apart_answer bytes came.Closed is = tt
-write_apart_answer bytes (came.Failed kind) is = inr (kind, refl)
-write_apart_answer bytes came.NoMemory is = inl refl
 
 did_row : (tells : Type 0) (call : Call) (old mid last' last new : SessionValue) (answer' answer : Answer) → refusal_of call old ≡ Taken → mid ≡ old → DoesRow (row_of call First) tells mid last' answer' → last ≡ last' → answer ≡ answer' → LetsGo tells last new → CarriesOut tells call old new answer
 did_row tells call old mid last' last new answer' answer taken same does last_is answer_is lets_go =

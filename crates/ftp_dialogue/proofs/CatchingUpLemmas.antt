@@ -1,6 +1,5 @@
 -- Lemmas on replies that are due to commands that were dropped.
 use Rattle.std.specs.Prelude.{not}
-use Rattle.std.proofs.lemmas.Bool.{eqb-true}
 use Rattle.std.proofs.Common.{◌≡◌, ◌⊎◌, ◌≤◌, ◌&&◌, ◌||◌, ◌<◌, ◌+◌, ◌==◌, ℕ, zero, suc, Bool, true, false, cond, Option, Some, None, List, [], Result, Ok, Err, inl, inr, refl, ap, sym, ◌∙◌, subst, arith}
 use Rattle.futures.specs.declared.task.Poll.{Poll}
 use Rattle.futures.specs.declared.task.Poll.TheVariants.{Ready, Pending}
@@ -16,7 +15,7 @@ use Rattle.ftp_calls.specs.declared.exchange.Row.{Row}
 use Rattle.ftp_calls.specs.declared.exchange.Row.TheVariants.{Exchanges, Arms, Resyncs, Sets, Moves}
 use Rattle.ftp_calls.specs.declared.exchange.Turn.TheVariants.{First}
 use Rattle.ftp_calls.specs.declared.call.Call.{Call}
-use Rattle.ftp_dialogue.specs.CatchingUp.{After, CatchesUp, Flushes, InStepIf, MakesThen, FlushesReadIf, PollsReadInStep, ReadsDue, ReadsIf, PlaysInStep, TellsFault, ReadsThen, fault_told, flushing, is_behind, is_late, is_plain_read, opens_beside, told_by, told_of_line}
+use Rattle.ftp_dialogue.specs.CatchingUp.{After, CatchesUp, Flushes, InStepIf, MakesThen, CatchesUpReadIf, PollsReadInStep, ReadsDue, ReadsIf, PlaysInStep, TellsFault, ReadsThen, fault_told, flushing, is_behind, is_caught_up, is_late, is_plain_read, opens_beside, told_by, told_of_line}
 use Rattle.ftp_dialogue.specs.Coding.{Coding}
 use Rattle.ftp_dialogue.specs.NetEvents.{Net}
 use Rattle.ftp_dialogue.specs.Dialogue.{Expected, Say, Leaf, expecting}
@@ -73,28 +72,20 @@ module _ (link : Link) (state : State) (net : Net) (a b : Channel) (line : Optio
 
 -- One reply after another
 
-unequal : (n : ℕ) → (n ≡ 0 → ⊥) → (n == 0) ≡ false
-unequal n none = go (n == 0) refl
-  where
-    go : (b : Bool) → (n == 0) ≡ b → (n == 0) ≡ false
-    go true is = absurd (none (eqb-true n 0 is))
-    go false is = is
-
-module _ (link : Link) where
+module _ (plain : Bool) (link : Link) where
   abbrev Rest : ℕ → SessionValue → SessionValue → Poll (Option FtpError) → Type 0
-  Rest n = λ v w r. ReadsDue n link v w r
+  Rest n = λ v w r. ReadsDue plain n link v w r
 
   -- where none is due
-  pub reads_none : (left : ℕ) (v : SessionValue) → 0 < left → v.state.unanswered ≡ 0 → ReadsDue left link v v (Ready None)
+  pub reads_none : (left : ℕ) (v : SessionValue) → 0 < left → is_caught_up plain v.state ≡ true → ReadsDue plain left link v v (Ready None)
   unfolding ReadsDue
   reads_none zero v some none = let clash : ⊥ = omega (arith, some) in absurd clash
   reads_none (suc left) v some none =
       let P : Bool → Type 0 = λ b. ReadsIf b link (Rest left) v v (Ready None) in
-      let is : (v.state.unanswered == 0) ≡ true = rw none refl in
-      subst P (sym is) (refl, refl)
+      subst P (sym none) (refl, refl)
 
   -- where one is due it is read, and what comes then is told
-  reads_one : (left less : ℕ) (a b c : SessionValue) (heard : Poll (Result Response FtpError)) (result : Poll (Option FtpError)) → 0 < left → left ≡ less + 1 → (a.state.unanswered == 0) ≡ false → ReadsAlone link (expecting []) a b heard → After (Rest less) (told_by heard) b c result → ReadsDue left link a c result
+  reads_one : (left less : ℕ) (a b c : SessionValue) (heard : Poll (Result Response FtpError)) (result : Poll (Option FtpError)) → 0 < left → left ≡ less + 1 → is_caught_up plain a.state ≡ false → ReadsAlone link (expecting []) a b heard → After (Rest less) (told_by heard) b c result → ReadsDue plain left link a c result
   unfolding ReadsDue
   reads_one zero less a b c heard result some is due reads then = let clash : ⊥ = omega (arith, some) in absurd clash
   reads_one (suc left) less a b c heard result some is due reads then =
@@ -103,32 +94,32 @@ module _ (link : Link) where
       let P : Bool → Type 0 = λ b. ReadsIf b link (Rest left) a c result in
       subst P (sym due) (record { middle = b; heard = heard; reads = reads; then_reads = subst N same then })
 
-  module _ (left less : ℕ) (a b : SessionValue) (heard : Poll (Result Response FtpError)) (some : 0 < left) (is : left ≡ less + 1) (some_due : a.state.unanswered ≡ 0 → ⊥) (reads : ReadsAlone link (expecting []) a b heard) where
+  module _ (left less : ℕ) (a b : SessionValue) (heard : Poll (Result Response FtpError)) (some : 0 < left) (is : left ≡ less + 1) (some_due : is_caught_up plain a.state ≡ false) (reads : ReadsAlone link (expecting []) a b heard) where
     -- an error is told
-    pub reads_fault : (found : Result Response FtpError) (fault : FtpError) → heard ≡ Ready found → Some fault ≡ fault_told found → ReadsDue left link a b (Ready (Some fault))
+    pub reads_fault : (found : Result Response FtpError) (fault : FtpError) → heard ≡ Ready found → Some fault ≡ fault_told found → ReadsDue plain left link a b (Ready (Some fault))
     reads_fault found fault given told =
         let H : Poll (Result Response FtpError) → Type 0 = λ h. After (Rest less) (told_by h) b b (Ready (Some fault)) in
         let T : Option FtpError → Type 0 = λ f. After (Rest less) (Ready f) b b (Ready (Some fault)) in
-        reads_one left less a b b heard (Ready (Some fault)) some is (unequal a.state.unanswered some_due) reads (subst H (sym given) (subst T told (refl, refl)))
+        reads_one left less a b b heard (Ready (Some fault)) some is some_due reads (subst H (sym given) (subst T told (refl, refl)))
 
     -- it is waited for
-    pub reads_waits : heard ≡ Pending → ReadsDue left link a b Pending
+    pub reads_waits : heard ≡ Pending → ReadsDue plain left link a b Pending
     reads_waits given =
         let H : Poll (Result Response FtpError) → Type 0 = λ h. After (Rest less) (told_by h) b b Pending in
-        reads_one left less a b b heard Pending some is (unequal a.state.unanswered some_due) reads (subst H (sym given) (refl, refl))
+        reads_one left less a b b heard Pending some is some_due reads (subst H (sym given) (refl, refl))
 
     -- others may be due
-    pub reads_more : (found : Result Response FtpError) (c : SessionValue) (result : Poll (Option FtpError)) → heard ≡ Ready found → None ≡ fault_told found → ReadsDue less link b c result → ReadsDue left link a c result
+    pub reads_more : (found : Result Response FtpError) (c : SessionValue) (result : Poll (Option FtpError)) → heard ≡ Ready found → None ≡ fault_told found → ReadsDue plain less link b c result → ReadsDue plain left link a c result
     reads_more found c result given told then =
         let H : Poll (Result Response FtpError) → Type 0 = λ h. After (Rest less) (told_by h) b c result in
         let T : Option FtpError → Type 0 = λ f. After (Rest less) (Ready f) b c result in
-        reads_one left less a b c heard result some is (unequal a.state.unanswered some_due) reads (subst H (sym given) (subst T told then))
+        reads_one left less a b c heard result some is some_due reads (subst H (sym given) (subst T told then))
 
 -- where no more are counted
-pub reads_no_more : (link : Link) (left : ℕ) (v : SessionValue) → left ≤ 0 → ReadsDue left link v v (Ready (Some BadResponse))
+pub reads_no_more : (plain : Bool) (link : Link) (left : ℕ) (v : SessionValue) → left ≤ 0 → ReadsDue plain left link v v (Ready (Some BadResponse))
 unfolding ReadsDue
-reads_no_more link zero v none = (refl, refl)
-reads_no_more link (suc left) v none = let clash : ⊥ = omega (arith, none) in absurd clash
+reads_no_more plain link zero v none = (refl, refl)
+reads_no_more plain link (suc left) v none = let clash : ⊥ = omega (arith, none) in absurd clash
 
 -- a call that reads replies first
 
@@ -178,18 +169,18 @@ module _ (link : Link) (plain ends : Bool) (Makes : SessionValue → SessionValu
       let E : Bool → Type 0 = λ e. MakesThen None e Makes middle new answer in
       first None result behind catches is (subst E (sym more) makes)
 
--- a polled read, after the unsent tail
-module _ (link : Link) (coding : Coding) (codes : Expected) (old middle new : SessionValue) (flush : Poll (Option FtpError)) (result : Poll (Result Response FtpError)) where
-  pub reads_unflushed : is_late old ≡ false → PollsRead link coding codes old new result → PollsReadInStep link coding codes old new result
-  reads_unflushed none reads =
-      let P : Bool → Type 0 = λ b. FlushesReadIf b link coding codes old new result in
+-- a polled read, after what is due before it
+module _ (link : Link) (coding : Coding) (codes : Expected) (old middle new : SessionValue) (caught : Poll (Option FtpError)) (result : Poll (Result Response FtpError)) where
+  pub reads_at_once : is_late old ≡ false → PollsRead link coding codes old new result → PollsReadInStep link coding codes old new result
+  reads_at_once none reads =
+      let P : Bool → Type 0 = λ b. CatchesUpReadIf b link coding codes old new result in
       record { reads = subst P (sym none) reads }
 
-  pub reads_flushed : (told : Poll (Option FtpError)) → is_late old ≡ true → Flushes link old middle flush → flush ≡ told → ReadsThen told link coding codes middle new result → PollsReadInStep link coding codes old new result
-  reads_flushed told late flushes is then =
-      let P : Bool → Type 0 = λ b. FlushesReadIf b link coding codes old new result in
+  pub reads_caught_up : (told : Poll (Option FtpError)) → is_late old ≡ true → CatchesUp link true old middle caught → caught ≡ told → ReadsThen told link coding codes middle new result → PollsReadInStep link coding codes old new result
+  reads_caught_up told late catches is then =
+      let P : Bool → Type 0 = λ b. CatchesUpReadIf b link coding codes old new result in
       let T : Poll (Option FtpError) → Type 0 = λ f. ReadsThen f link coding codes middle new result in
-      record { reads = subst P (sym late) (record { flushed = middle; flush = flush; flushes = flushes; then_reads = subst T (sym is) then }) }
+      record { reads = subst P (sym late) (record { middle = middle; caught = caught; catches_up = catches; then_reads = subst T (sym is) then }) }
 
 -- a call of no transfer is no read of a last reply
 row_undrained : (row : Row) → moving_row row ≡ false → draining_row row ≡ false

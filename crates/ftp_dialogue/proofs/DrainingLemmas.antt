@@ -126,54 +126,6 @@ due_taken call v due =
     let so = due_so call v.channel.failed v.state.counts.owed due in
     ap (λ l. refusal Drain v.channel.failed l) so.left ∙ ap (λ f. refusal Drain f false) so.going
 
--- a drain that isn't over fails, which any call may
-pub drain_fails : (call : Call) (answer : Answer) → MayAnswer Drain answer → is_unit answer ≡ false → MayAnswer call answer
-drain_fails call answer may none = (First, inr (fault may), kind (given_by (row_of call First)) answer (fault may))
-  where
-    by_kind : (a : Answer) → AnswersKind Nothing a → is_unit a ≡ false → IsFault a
-    by_kind answers.Unit is more = let clash : true ≡ false = more in cc
-    by_kind (answers.Reply reply) is more = let clash : Nothing ≡ Replies = is in cc
-    by_kind (answers.Text text) is more = let clash : Nothing ≡ Texts = is in cc
-    by_kind (answers.Time time) is more = let clash : Nothing ≡ Times = is in cc
-    by_kind (answers.Size size) is more = let clash : Nothing ≡ Sizes = is in cc
-    by_kind (answers.Features features) is more = let clash : Nothing ≡ Lists = is in cc
-    by_kind answers.Opened is more = let clash : Nothing ≡ Connections = is in cc
-    by_kind (answers.OpenedWith reply) is more = let clash : Nothing ≡ Connections = is in cc
-    by_kind (answers.Bytes bytes) is more = let clash : Nothing ≡ Movements = is in cc
-    by_kind (answers.Count count) is more = let clash : Nothing ≡ Movements = is in cc
-    by_kind (answers.Lines lines) is more = let clash : Nothing ≡ Listings = is in cc
-    by_kind answers.NoTransfer is more = let clash : Nothing ≡ Movements = is in cc
-    by_kind (answers.Fault fault) is more = tt
-
-    at : (turn : Turn) → TurnOf Drain turn → AnswersKind (given_by (row_of Drain turn)) answer → IsFault answer
-    at First turn is = by_kind answer is none
-    at Second turn is = by_kind answer is none
-    at (Passive offset) turn is = let clash : false ≡ true = turn in cc
-    at (ExtendedPassive offset) turn is = let clash : false ≡ true = turn in cc
-    at (Active address offset) turn is = let clash : false ≡ true = turn in cc
-    at (Restart offset) turn is = let clash : false ≡ true = turn in cc
-    at (Closed close) turn is = let clash : false ≡ true = turn in cc
-    at Aborted turn is = let clash : false ≡ true = turn in cc
-
-    fault : MayAnswer Drain answer → IsFault answer
-    fault (turn, inl of, is) = at turn of is
-    fault (turn, inr is, some) = is
-
-    kind : (k : Kind) (a : Answer) → IsFault a → AnswersKind k a
-    kind k answers.Unit is = absurd is
-    kind k (answers.Reply reply) is = absurd is
-    kind k (answers.Text text) is = absurd is
-    kind k (answers.Time time) is = absurd is
-    kind k (answers.Size size) is = absurd is
-    kind k (answers.Features features) is = absurd is
-    kind k answers.Opened is = absurd is
-    kind k (answers.OpenedWith reply) is = absurd is
-    kind k (answers.Bytes bytes) is = absurd is
-    kind k (answers.Count count) is = absurd is
-    kind k (answers.Lines lines) is = absurd is
-    kind k answers.NoTransfer is = absurd is
-    kind k (answers.Fault fault) is = tt
-
 -- a call that is taken isn't refused
 pub taken_unrefused : (tells : Type 0) (call : Call) (v w : SessionValue) (answer : Answer) → refusal_of call v ≡ Taken → IsRefused tells call v w answer → ⊥
 taken_unrefused tells call v w answer taken refused =
@@ -304,20 +256,6 @@ given_none first other given is = go (is_unit first) refl
     go : (b : Bool) → is_unit first ≡ b → is_unit first ≡ true
     go true unit = unit
     go false none = let clash : None ≡ Some first = sym is ∙ given_if first other given false none in cc
-
--- the drain is due, and is over; or it fails
-module _ (Makes : Call → SessionValue → SessionValue → Answer → Type 0) (call : Call) (old middle new : SessionValue) (first answer : Answer) (due : due_of call old ≡ true) (drains : Makes Drain old middle first) where
-  pub drains_on : is_unit first ≡ true → Makes call middle new answer → DrainsIf (due_of call old) Makes call old new answer
-  drains_on unit makes =
-      let P : Bool → Type 0 = λ b. DrainsIf b Makes call old new answer in
-      let Q : Bool → Type 0 = λ b. MakesAfter b first (Makes call) middle new answer in
-      subst P (sym due) (record { middle = middle; first = first; drains = drains; then_makes = subst Q (sym unit) makes })
-
-  pub drains_out : is_unit first ≡ false → answer ≡ first → new ≡ middle → DrainsIf (due_of call old) Makes call old new answer
-  drains_out fault is same =
-      let P : Bool → Type 0 = λ b. DrainsIf b Makes call old new answer in
-      let Q : Bool → Type 0 = λ b. MakesAfter b first (Makes call) middle new answer in
-      subst P (sym due) (record { middle = middle; first = first; drains = drains; then_makes = subst Q (sym fault) (is, same) })
 
 -- a call that is taken doesn't lack its transfer
 pub taken_held : (call : Call) (v : SessionValue) → refusal_of call v ≡ Taken → refusal_of call v ≡ Lacking → ⊥

@@ -140,15 +140,3 @@ first_plain call plain = own_agrees call true ∙ plain
 
 pub second_plain : (call : Call) → negotiates call ≡ false → row_agrees (ending_of (row_of call Second)) ≡ false
 second_plain call plain = own_agrees call false ∙ opens_alike call ∙ plain
-
--- a call that gives one kind answers with it, or with an error
-pub gives_kind : (call : Call) (kind : Kind) (answer : Answer) → MayAnswer call answer → Gives kind call → AnswersKind kind answer ⊎ IsFault answer
-gives_kind call kind answer (First, inl of, answers) gives = inl (let P : Kind → Type 0 = λ k. AnswersKind k answer in subst P gives.0 answers)
-gives_kind call kind answer (Second, inl of, answers) gives = inl (let P : Kind → Type 0 = λ k. AnswersKind k answer in subst P gives.1 answers)
-gives_kind call kind answer (Passive offset, inl of, answers) gives = let clash : true ≡ false = sym of ∙ gives.2.0 in cc
-gives_kind call kind answer (ExtendedPassive offset, inl of, answers) gives = let clash : true ≡ false = sym of ∙ gives.2.0 in cc
-gives_kind call kind answer (Active address offset, inl of, answers) gives = let clash : true ≡ false = sym of ∙ gives.2.0 in cc
-gives_kind call kind answer (Restart offset, inl of, answers) gives = let clash : true ≡ false = sym of ∙ gives.2.0 in cc
-gives_kind call kind answer (Closed close, inl of, answers) gives = let clash : true ≡ false = sym (finishing_moves call of) ∙ gives.2.2 in cc
-gives_kind call kind answer (Aborted, inl of, answers) gives = let clash : true ≡ false = sym (finishing_moves call (aborts_finish call of)) ∙ gives.2.2 in cc
-gives_kind call kind answer (turn, inr fault, answers) gives = inr fault

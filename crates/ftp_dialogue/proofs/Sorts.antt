@@ -138,13 +138,6 @@ row_opens_abroad Resyncs is = refl
 row_opens_abroad (Sets setting) is = let clash : false ≡ true = is in cc
 row_opens_abroad (Moves movement) is = let clash : false ≡ true = is in cc
 
-row_reads_abroad : (r : Row) → reads r ≡ true → local_row r ≡ false
-row_reads_abroad (Exchanges e) is = refl
-row_reads_abroad (Arms offset) is = refl
-row_reads_abroad Resyncs is = refl
-row_reads_abroad (Sets setting) is = let clash : false ≡ true = is in cc
-row_reads_abroad (Moves movement) is = let clash : false ≡ true = is in cc
-
 row_local_opens : (r : Row) → local_row r ≡ true → opens r ≡ false
 row_local_opens (Exchanges e) is = let clash : false ≡ true = is in cc
 row_local_opens (Arms offset) is = refl
@@ -166,13 +159,6 @@ row_opens_drains Resyncs is = refl
 row_opens_drains (Sets setting) is = refl
 row_opens_drains (Moves movement) is = refl
 
-row_local_drains : (r : Row) → local_row r ≡ true → draining_row r ≡ false
-row_local_drains (Exchanges e) is = let clash : false ≡ true = is in cc
-row_local_drains (Arms offset) is = refl
-row_local_drains Resyncs is = refl
-row_local_drains (Sets setting) is = refl
-row_local_drains (Moves movement) is = refl
-
 row_unheld : (r : Row) → local_row r ≡ false → finishing_row r ≡ false → draining_row r ≡ false → moving_row r ≡ false
 row_unheld (Exchanges e) abroad ends drains = ap (λ b. b || is_draining e.ending) ends ∙ drains
 row_unheld (Arms offset) abroad ends drains = refl
@@ -187,9 +173,6 @@ unheld_call call abroad ends drains = row_unheld (row_of call First) abroad ends
 
 pub opens_drains_none : (call : Call) → negotiates call ≡ true → drains call ≡ false
 opens_drains_none call is = row_opens_drains (row_of call First) is
-
-pub local_drains_none : (call : Call) → is_local call ≡ true → drains call ≡ false
-local_drains_none call is = row_local_drains (row_of call First) is
 
 -- a call that needs no transfer hears the end of none
 pub unheld_drains_none : (call : Call) → of_transfer call ≡ false → drains call ≡ false
@@ -220,9 +203,6 @@ finishing_moves call is = row_finishes_moves (row_of call First) is
 
 pub opens_no_local : (call : Call) → negotiates call ≡ true → is_local call ≡ false
 opens_no_local call is = row_opens_abroad (row_of call First) is
-
-pub read_no_local : (call : Call) → is_read call ≡ true → is_local call ≡ false
-read_no_local call is = row_reads_abroad (row_of call First) is
 
 pub local_opens_none : (call : Call) → is_local call ≡ true → negotiates call ≡ false
 local_opens_none call is = row_local_opens (row_of call First) is

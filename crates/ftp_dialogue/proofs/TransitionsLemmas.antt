@@ -564,15 +564,6 @@ abbrev pub given_by : Poll Answer → List Answer
 given_by (poll.Ready answer) = answer ∷ []
 given_by poll.Pending = []
 
-pub polls_fail : (link : Link) (begun : Bool) (tree tree' : Tree) (old new : SessionValue) (result : Poll Answer) → PollSteps link begun tree tree' old new result → new.channel.failed ≡ true → (old.channel.failed ≡ true) ⊎ HasFault (given_by result)
-polls_fail link begun tree tree' old new (poll.Ready answer) (inl ends) failed = go (ends.fails failed)
-  where
-    go : (old.channel.failed ≡ true) ⊎ IsFault answer → (old.channel.failed ≡ true) ⊎ HasFault (answer ∷ [])
-    go (inl was) = inl was
-    go (inr fault) = inr (inl fault)
-polls_fail link begun tree tree' old new (poll.Ready answer) (inr aborts) failed = inr (inl (let P : Answer → Type 0 = IsFault in subst P (sym aborts.is) tt))
-polls_fail link begun tree tree' old new poll.Pending (moved, waits) failed = inl (sym moved.failed ∙ failed)
-
 -- a poll begins where its call begins
 module _ (link : Link) (coding : Coding) (call : Call) (stage first last : Stage) (v e w : SessionValue) (result : Poll Answer) (same : e ≡ entered_at call stage v) (begun : begun_at first ≡ begun_at stage) (tree : remaining coding call e.state first ≡ entered_tree coding call stage v.state) where
   pub polls_entered : PollSteps link (begun_at first) (remaining coding call e.state first) (remaining coding call e.state last) e w result → PollSteps link (begun_at stage) (entered_tree coding call stage v.state) (remaining coding call (entered_state call stage v.state) last) (entered_at call stage v) w result
@@ -599,29 +590,3 @@ rests_entered link call stage v e w read same rests =
     let here : entered_at call stage v ≡ v = ap N (plain_entered call v.state plain (read_finishes_none call read)) ∙ elim (is_first stage) as (λ b. record v { state = cond b v.state v.state } ≡ v) [ true ↦ refl | false ↦ refl ] in
     let P : SessionValue → Type 0 = λ x. Rests link x w in
     subst P (same ∙ here) rests
-
--- nothing was said or taken where nothing was made of a call
-first_turn : (turn : Turn) → is_first_turn turn ≡ true → turn ≡ First
-first_turn First is = refl
-first_turn Second is = let clash : false ≡ true = is in cc
-first_turn (Passive offset) is = let clash : false ≡ true = is in cc
-first_turn (ExtendedPassive offset) is = let clash : false ≡ true = is in cc
-first_turn (Active address offset) is = let clash : false ≡ true = is in cc
-first_turn (Restart offset) is = let clash : false ≡ true = is in cc
-first_turn (Closed close) is = let clash : false ≡ true = is in cc
-first_turn Aborted is = let clash : false ≡ true = is in cc
-
-pub is_at_first : (stage : Stage) → is_first stage ≡ true → stage ≡ At First
-is_at_first (At turn) is = ap At (first_turn turn is)
-is_at_first (Saying line a) is = let clash : false ≡ true = is in cc
-is_at_first (Hearing a) is = let clash : false ≡ true = is in cc
-is_at_first (Arming turn offset) is = let clash : false ≡ true = is in cc
-is_at_first (Resyncing turn seeks) is = let clash : false ≡ true = is in cc
-is_at_first (OpeningData way) is = let clash : false ≡ true = is in cc
-is_at_first Closing is = let clash : false ≡ true = is in cc
-is_at_first (Aborting abort) is = let clash : false ≡ true = is in cc
-is_at_first (Transferring fetching) is = let clash : false ≡ true = is in cc
-
-pub stage_in_later : (call : Call) (stage : Stage) → is_first stage ≡ false → StageIn (Some call) stage → StageOf call stage
-stage_in_later call stage later (inl stage_of) = stage_of
-stage_in_later call stage later (inr first) = let clash : true ≡ false = sym (ap is_first first) ∙ later in cc

@@ -52,25 +52,6 @@ empty_after next bytes within = go (next == length bytes) refl
 pub none_left : (text after : Bool) (next : ℕ) (bytes : List ℕ) → next ≤ length bytes → (next == length bytes) ≡ (length (on_wire text after (drop next bytes)) == 0)
 none_left text after next bytes within = empty_after next bytes within ∙ sym (empty_on_wire text after (drop next bytes))
 
--- the first of what goes out, where a CR goes out before the first byte, and where none does
-pub lacking_front : (text after : Bool) (byte : ℕ) (bytes : List ℕ) → (text && ((byte == 10) && not after)) ≡ true → 13 ∷ [] ≡ take 1 (on_wire text after (byte ∷ bytes))
-lacking_front false after byte bytes lacks = let clash : false ≡ true = lacks in cc
-lacking_front true after byte bytes lacks = sym (ap (λ b. take 1 (cond b (13 ∷ 10 ∷ []) (byte ∷ []) ++ converted (byte == 13) bytes)) lacks)
-
-pub lacking_step : (text after : Bool) (byte : ℕ) (bytes : List ℕ) → (text && ((byte == 10) && not after)) ≡ true → on_wire text true (byte ∷ bytes) ≡ drop 1 (on_wire text after (byte ∷ bytes))
-lacking_step false after byte bytes lacks = let clash : false ≡ true = lacks in cc
-lacking_step true after byte bytes lacks =
-    let feed : byte ≡ 10 = fed (byte == 10) refl lacks in
-    subst (λ (n : ℕ). (n == 10) && not after ≡ true → converted true (n ∷ bytes) ≡ drop 1 (converted after (n ∷ bytes))) (sym feed) (λ is. sym (ap (λ b. drop 1 (cond b (13 ∷ 10 ∷ []) (10 ∷ []) ++ converted false bytes)) is)) lacks
-  where
-    fed : (b : Bool) → (byte == 10) ≡ b → b && not after ≡ true → byte ≡ 10
-    fed true is lacks = eqb-true byte 10 is
-    fed false is lacks = let clash : false ≡ true = lacks in cc
-
-pub plain_step : (text after : Bool) (byte : ℕ) (bytes : List ℕ) → (text && ((byte == 10) && not after)) ≡ false → on_wire text (byte == 13) bytes ≡ drop 1 (on_wire text after (byte ∷ bytes))
-plain_step false after byte bytes plain = refl
-plain_step true after byte bytes plain = sym (ap (λ b. drop 1 (cond b (13 ∷ 10 ∷ []) (byte ∷ []) ++ converted (byte == 13) bytes)) plain)
-
 -- a text that begins with LF comes after CR, where none is lacking
 pub may_end : (text after : Bool) (byte : ℕ) (bytes : List ℕ) → (text && ((byte == 10) && not after)) ≡ false → MayEnd text after (byte ∷ bytes)
 may_end text true byte bytes plain is feed = refl

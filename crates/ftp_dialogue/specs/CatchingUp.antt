@@ -1,6 +1,6 @@
 -- Replies that are due to commands that were dropped are read before a call says or hears anything of its own: RFC 959,
 -- sections 4.2 and 5.4.
-use Rattle.std.specs.Prelude.{◌≡◌, ◌⊎◌, ◌&&◌, ◌||◌, ◌==◌, not, ℕ, zero, suc, Bool, true, false, [], Option, Some, None, Result, Ok, Err}
+use Rattle.std.specs.Prelude.{◌≡◌, ◌⊎◌, ◌&&◌, ◌||◌, ◌==◌, not, ℕ, zero, suc, Bool, true, false, [], Option, Some, None, Result, Ok, Err, if◌then◌else◌}
 use Rattle.futures.specs.declared.task.Poll.{Poll}
 use Rattle.futures.specs.declared.task.Poll.TheVariants.{Ready, Pending}
 use Rattle.ftp_base.specs.declared.types.reply.Response.{Response}
@@ -16,7 +16,7 @@ use Rattle.ftp_dialogue.specs.Dialogue.{Expected, Tree, Say, Leaf, expecting}
 use Rattle.ftp_dialogue.specs.Link.{Link, unasked}
 use Rattle.ftp_dialogue.specs.Promises.{Aborts, Completes, Leads, Plays}
 use Rattle.ftp_dialogue.specs.Reading.{PollsRead, ReadsAlone}
-use Rattle.ftp_dialogue.specs.Sound.{some_live}
+use Rattle.ftp_dialogue.specs.Sound.{none_left, some_live}
 use Rattle.ftp_dialogue.specs.State.{SessionValue}
 use Rattle.ftp_dialogue.specs.Unanswered.{most_commands}
 use Rattle.ftp_dialogue.specs.declared.state.Owed.{Owed}
@@ -34,7 +34,7 @@ is_late v = not (v.channel.failed || (v.state.unanswered == 0))
 abbrev pub is_behind : Call → SessionValue → Bool
 is_behind call v = is_late v && (drains_first call || drains call) && not (opens_beside call v.state.counts.owed)
 
--- a plain read reads none of them first: its own reply is one
+-- a plain read reads none of them first but the last one of a transfer that was left: its own reply is one
 abbrev pub is_plain_read : Call → Bool
 is_plain_read call = is_read call && not (drains call)
 
@@ -91,22 +91,22 @@ abbrev pub ReadsIf : Bool → Link → (SessionValue → SessionValue → Poll (
 ReadsIf true link Next old new result = (result ≡ Ready None) × (new ≡ old)
 ReadsIf false link Next old new result = ReadsOne link Next old new result
 
--- as long as some are due; a server that sends more than so many in their place says nothing that can be read
-unfoldable pub ReadsDue : ℕ → Link → SessionValue → SessionValue → Poll (Option FtpError) → Type 0
-ReadsDue zero link old new result = (result ≡ Ready (Some BadResponse)) × (new ≡ old)
-ReadsDue (suc left) link old new result = ReadsIf (old.state.unanswered == 0) link (λ v w r. ReadsDue left link v w r) old new result
+-- none is due any more; before a plain read, whose own reply is one of them, only the last one of a transfer that was left
+-- is read
+abbrev pub is_caught_up : Bool → State → Bool
+is_caught_up plain state = if plain then none_left state.counts.owed else state.unanswered == 0
 
--- none is read before a plain read
-abbrev pub ReadsDueUnless : Bool → Link → SessionValue → SessionValue → Poll (Option FtpError) → Type 0
-ReadsDueUnless true link old new result = (result ≡ Ready None) × (new ≡ old)
-ReadsDueUnless false link old new result = ReadsDue most_commands link old new result
+-- as long as some are due; a server that sends more than so many in their place says nothing that can be read
+unfoldable pub ReadsDue : Bool → ℕ → Link → SessionValue → SessionValue → Poll (Option FtpError) → Type 0
+ReadsDue plain zero link old new result = (result ≡ Ready (Some BadResponse)) × (new ≡ old)
+ReadsDue plain (suc left) link old new result = ReadsIf (is_caught_up plain old.state) link (λ v w r. ReadsDue plain left link v w r) old new result
 
 -- the tail goes out, and then the replies are read
 pub record CatchesUp (link : Link) (plain : Bool) (old new : SessionValue) (result : Poll (Option FtpError)) : Type 0 where
   pub flushed : SessionValue
   pub flush : Poll (Option FtpError)
   pub flushes : Flushes link old flushed flush
-  pub then_reads : After (ReadsDueUnless plain link) flush flushed new result
+  pub then_reads : After (ReadsDue plain most_commands link) flush flushed new result
 
 -- then the call is made, but for a read of the last reply of a transfer that was left, which is among them; an error is
 -- the answer
@@ -129,21 +129,22 @@ InStepIf false link plain ends Makes old new answer = Makes old new answer
 pub record PlaysInStep (link : Link) (coding : Coding) (call : Call) (old new : SessionValue) (answer : Answer) : Type 0 where
   pub plays : InStepIf (is_behind call old) (unasked link) (is_plain_read call) (drains call) (Plays link coding call) old new answer
 
--- a polled read of one reply: where replies are due the unsent tail goes out first
+-- a polled read of one reply: where replies are due the unsent tail goes out first, and the last reply of a transfer that was
+-- left is among them
 abbrev pub ReadsThen : Poll (Option FtpError) → Link → Coding → Expected → SessionValue → SessionValue → Poll (Result Response FtpError) → Type 0
 ReadsThen (Ready None) link coding codes middle new result = PollsRead link coding codes middle new result
 ReadsThen (Ready (Some fault)) link coding codes middle new result = (result ≡ Ready (Err fault)) × (new ≡ middle)
 ReadsThen Pending link coding codes middle new result = (result ≡ Pending) × (new ≡ middle)
 
-pub record FlushesThenReads (link : Link) (coding : Coding) (codes : Expected) (old new : SessionValue) (result : Poll (Result Response FtpError)) : Type 0 where
-  pub flushed : SessionValue
-  pub flush : Poll (Option FtpError)
-  pub flushes : Flushes link old flushed flush
-  pub then_reads : ReadsThen flush link coding codes flushed new result
+pub record CatchesUpThenReads (link : Link) (coding : Coding) (codes : Expected) (old new : SessionValue) (result : Poll (Result Response FtpError)) : Type 0 where
+  pub middle : SessionValue
+  pub caught : Poll (Option FtpError)
+  pub catches_up : CatchesUp link true old middle caught
+  pub then_reads : ReadsThen caught link coding codes middle new result
 
-abbrev pub FlushesReadIf : Bool → Link → Coding → Expected → SessionValue → SessionValue → Poll (Result Response FtpError) → Type 0
-FlushesReadIf true link coding codes old new result = FlushesThenReads link coding codes old new result
-FlushesReadIf false link coding codes old new result = PollsRead link coding codes old new result
+abbrev pub CatchesUpReadIf : Bool → Link → Coding → Expected → SessionValue → SessionValue → Poll (Result Response FtpError) → Type 0
+CatchesUpReadIf true link coding codes old new result = CatchesUpThenReads link coding codes old new result
+CatchesUpReadIf false link coding codes old new result = PollsRead link coding codes old new result
 
 pub record PollsReadInStep (link : Link) (coding : Coding) (codes : Expected) (old new : SessionValue) (result : Poll (Result Response FtpError)) : Type 0 where
-  pub reads : FlushesReadIf (is_late old) link coding codes old new result
+  pub reads : CatchesUpReadIf (is_late old) link coding codes old new result

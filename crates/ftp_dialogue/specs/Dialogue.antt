@@ -436,7 +436,7 @@ performing coding (task.Store bytes) state = storing bytes state
 abbrev pub accepted : Coding → Ending → State → Response → (State → Tree) → Tree
 accepted coding Done state reply later = Leaf Unit state
 accepted coding GivesReply state reply later = Leaf (Reply reply) state
-accepted coding TakesReply state reply later = Leaf (Reply reply) (answered_by reply.status state)
+accepted coding TakesReply state reply later = Leaf (Reply reply) (answered_by reply state)
 accepted coding Greets state reply later = Leaf Unit (record state { welcome = Some (greeting_of coding reply.body) })
 accepted coding GivesPath state reply later = Leaf (path_answer reply (path_of coding.decode reply.body)) state
 accepted coding GivesSecondLine state reply later = Leaf (line_answer (second_line_of coding.decode reply.body)) state

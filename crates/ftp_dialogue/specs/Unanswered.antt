@@ -1,9 +1,9 @@
 -- Commands that were dropped before their replies were read, and which reply is whose: a server answers its commands in
 -- their order. RFC 959, sections 4.2 and 5.4.
-use Rattle.std.specs.Prelude.{◌+◌, ◌-◌, ◌==◌, ◌&&◌, ℕ, Bool, true, false, Result, Ok, Err, nat_le, nat_lt, if◌then◌else◌}
-use Rattle.ftp_base.specs.declared.status.Status.{Status}
+use Rattle.std.specs.Prelude.{◌+◌, ◌-◌, ◌==◌, ◌&&◌, ℕ, Bool, true, false, Result, Ok, Err, nat_le, if◌then◌else◌}
 use Rattle.ftp_base.specs.declared.status.Status.TheVariants.{TransferAborted}
 use Rattle.ftp_base.specs.Status.{code_of}
+use Rattle.ftp_base.specs.Reply.{is_preliminary}
 use Rattle.ftp_base.specs.declared.types.reply.Response.{Response}
 use Rattle.ftp_base.specs.declared.types.fault.FtpError.{FtpError}
 use Rattle.ftp_base.specs.declared.types.fault.FtpError.TheVariants.{UnexpectedResponse, BadResponse}
@@ -29,26 +29,22 @@ one_answered state = if nat_le state.unanswered 1 then record state { unanswered
 abbrev pub one_counted : State → State
 one_counted state = if none_left state.counts.owed then one_answered state else record state { counts = one_drained state.counts }
 
--- another reply follows: RFC 959, section 4.2.1
-abbrev pub is_preliminary : Status → Bool
-is_preliminary status = nat_le 100 (code_of status) && nat_lt (code_of status) 200
-
--- a reply of this status was read: while replies are due a preliminary one counts for none, nor does one 426 of an abort
-abbrev pub counted_by : Status → State → State
-counted_by status state =
-    if is_preliminary status then state
-    else if state.aborting && (code_of status == code_of TransferAborted) then record state { aborting = false }
+-- this reply was read: while replies are due a preliminary one counts for none, nor does one 426 of an abort
+abbrev pub counted_by : Response → State → State
+counted_by reply state =
+    if is_preliminary reply then state
+    else if state.aborting && (code_of reply.status == code_of TransferAborted) then record state { aborting = false }
     else one_counted state
 
-abbrev pub answered_by : Status → State → State
-answered_by status state = if state.unanswered == 0 then state else counted_by status state
+abbrev pub answered_by : Response → State → State
+answered_by reply state = if state.unanswered == 0 then state else counted_by reply state
 
 -- what can't be read as a reply counts as one; where none was read nothing changes
 abbrev pub after_faulty : FtpError → State → State
-after_faulty (UnexpectedResponse reply) state = answered_by reply.status state
+after_faulty (UnexpectedResponse reply) state = answered_by reply state
 after_faulty BadResponse state = if state.unanswered == 0 then state else one_counted state
 after_faulty other state = state
 
 abbrev pub after_heard : Result Response FtpError → State → State
-after_heard (Ok reply) state = answered_by reply.status state
+after_heard (Ok reply) state = answered_by reply state
 after_heard (Err fault) state = after_faulty fault state

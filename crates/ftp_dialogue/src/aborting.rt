@@ -13,7 +13,7 @@ ghost use Rattle.ftp_control.specs.Refusal.{IsRefusalOf};
 ghost use Rattle.ftp_transport.specs.Told.{EndsAsTold};
 ghost use Rattle.ftp_dialogue.specs.Coding.{Coding, coding_of};
 ghost use Rattle.ftp_dialogue.specs.Link.{asking, polling};
-ghost use Rattle.ftp_dialogue.specs.Steps.Moving.{BreaksOff, DropsAbort};
+ghost use Rattle.ftp_dialogue.specs.Steps.Moving.{BreaksOff};
 ghost use Rattle.ftp_dialogue.specs.Steps.Stages.{is_out};
 
 use super::asks::Asks;
@@ -139,19 +139,6 @@ impl<Tr: Network> Machine<Tr> {
         pass_over(self.close_data());
         go_to(stage, Stage::At(Turn::Aborted));
         Step::Next
-    }
-}
-
-impl<Tr: Network> Machine<Tr> {
-    /// An abort that was polled is dropped. Its transfer's data connection is closed; the transfer was aborted where
-    /// `ABOR` has gone out whole, and nothing is owed; else it stays left.
-    pub fn drop_abort(&mut self, stage: &Stage)
-        ensures drops { DropsAbort Tr.Conn.tells stage.now self.old self.new }
-    {
-        self.let_go();
-        if is_out(stage) {
-            self.state.counts.abort();
-        }
     }
 }
 

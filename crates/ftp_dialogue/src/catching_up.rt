@@ -8,7 +8,7 @@
 ghost use Rattle.std.specs.Prelude.{◌≡◌, ◌⊎◌, true, false};
 ghost use Rattle.futures.specs.declared.task.Poll.TheVariants as poll;
 ghost use Rattle.ftp_calls.specs.Exchanges.{drains, is_local, negotiates, of_transfer};
-ghost use Rattle.ftp_dialogue.specs.CatchingUp.{CatchesUp, Flushes, InStepIf, PollsReadInStep, ReadsDue, TellsFault, fault_told, is_behind, is_late, is_plain_read, told_of_line};
+ghost use Rattle.ftp_dialogue.specs.CatchingUp.{CatchesUp, Flushes, InStepIf, PollsReadInStep, ReadsDue, TellsFault, fault_told, is_behind, is_caught_up, is_late, is_plain_read, told_of_line};
 ghost use Rattle.ftp_dialogue.specs.Coding.{coding_of};
 ghost use Rattle.ftp_dialogue.specs.Dialogue.{expecting};
 ghost use Rattle.ftp_dialogue.specs.Link.{asking, blocking, polling};
@@ -45,8 +45,8 @@ impl<Tr: Network> Machine<Tr> {
     }
 
     /// Polls the replies that are due to commands that were dropped, after the unsent tail of a line; before a plain
-    /// read that tail alone. One that waits may be dropped, and polled again. An error in place of a reply is returned,
-    /// and counted where it is one that can't be read.
+    /// read the last reply of a transfer that was left alone. One that waits may be dropped, and polled again. An error in
+    /// place of a reply is returned, and counted where it is one that can't be read.
     pub fn poll_catch_up<W>(
         &mut self,
         alloc: Global,
@@ -59,14 +59,22 @@ impl<Tr: Network> Machine<Tr> {
         ensures waits { result ≡ poll.Pending → Tr.Conn.may_wait }
         ensures catches_up { CatchesUp (polling Tr.Conn.PollConn) (is_plain_read call.now) self.old self.new result }
     {
+        self.poll_caught_up(alloc, is_read(call) && !drains(call), w)
+    }
+
+    /// Polls the replies that are due, after the unsent tail of a line; those before a plain read, or all.
+    fn poll_caught_up<W>(&mut self, alloc: Global, plain: bool, w: &mut W) -> Poll<Option<FtpError>>
+    where
+        Tr::Conn: PollConn<W>,
+        requires going { self.old.channel.failed ≡ false }
+        ensures waits { result ≡ poll.Pending → Tr.Conn.may_wait }
+        ensures catches_up { CatchesUp (polling Tr.Conn.PollConn) plain self.old self.new result }
+    {
         match self.poll_flush(w) {
             Poll::Ready(None) => {}
             other => return other,
         }
-        if is_read(call) && !drains(call) {
-            return Poll::Ready(None);
-        }
-        self.poll_due(alloc, w)
+        self.poll_due(alloc, plain, w)
     }
 
     /// Makes a call in step: after the replies that are due to commands that were dropped, where it reads them first.
@@ -121,7 +129,7 @@ impl<Tr: Network> Machine<Tr> {
 
     /// Polls a read of one reply whose status is among the expected. Where replies are due to commands that were
     /// dropped the unsent tail of a line goes out first, and the reply is one of them. The last reply of a transfer
-    /// that was left is polled before it: while that hasn't come whole the read waits, and what came of it is kept; an
+    /// that was left is polled before it, which a preliminary reply is not where others are due: while that hasn't come whole the read waits, and what came of it is kept; an
     /// error of its read is returned; once it is over the read itself is polled at once. A read that waits may be
     /// dropped and polled again.
     ///
@@ -142,7 +150,7 @@ impl<Tr: Network> Machine<Tr> {
             self.old self.new result }
     {
         if self.is_late() {
-            match self.poll_flush(w) {
+            match self.poll_caught_up(alloc, true, w) {
                 Poll::Ready(None) => {}
                 Poll::Ready(Some(fault)) => return Poll::Ready(Err(fault)),
                 Poll::Pending => return Poll::Pending,
@@ -171,16 +179,27 @@ impl<Tr: Network> Machine<Tr> {
         told_of_line(self.channel.poll_perform(&mut None, w))
     }
 
+    /// Whether none is due any more, before a plain read the last reply of a transfer that was left.
+    fn is_caught_up(&self, plain: bool) -> bool
+        ensures { result ≡ is_caught_up plain self.now.state }
+    {
+        if plain {
+            !matches!(self.state.counts.owed(), Owed::Left(_))
+        } else {
+            self.state.unanswered == 0
+        }
+    }
+
     /// Reads one reply after another, as long as some are due.
-    fn poll_due<W>(&mut self, alloc: Global, w: &mut W) -> Poll<Option<FtpError>>
+    fn poll_due<W>(&mut self, alloc: Global, plain: bool, w: &mut W) -> Poll<Option<FtpError>>
     where
         Tr::Conn: PollConn<W>,
         ensures waits { result ≡ poll.Pending → Tr.Conn.may_wait }
-        ensures reads { ReadsDue most_commands (polling Tr.Conn.PollConn) self.old self.new result }
+        ensures reads { ReadsDue plain most_commands (polling Tr.Conn.PollConn) self.old self.new result }
     {
         let mut left = u64::MAX;
         'due: while left > 0 {
-            if self.state.unanswered == 0 {
+            if self.is_caught_up(plain) {
                 return Poll::Ready(None);
             }
             match self.poll_read_alone(alloc, &[], w) {

@@ -159,7 +159,7 @@ impl<Tr: Network> Machine<Tr> {
         ensures { self.new ≡ record self.old { state = after_poll heard.now self.old.state } }
     {
         match heard {
-            Poll::Ready(Ok(reply)) => self.state.answer(reply.status),
+            Poll::Ready(Ok(reply)) => self.state.answer(reply),
             Poll::Ready(Err(fault)) => self.state.answer_faulty(fault),
             Poll::Pending => {}
         }

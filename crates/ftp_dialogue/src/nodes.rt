@@ -172,7 +172,7 @@ pub(crate) fn accept<E: Encoding>(
         Ending::Done => Accepted::Done(Answer::Unit),
         Ending::GivesReply => Accepted::Done(Answer::Reply(reply)),
         Ending::TakesReply => {
-            state.answer(reply.status);
+            state.answer(&reply);
             Accepted::Done(Answer::Reply(reply))
         }
         Ending::Greets => greeted(alloc, encoding, reply, state),

@@ -7,11 +7,11 @@ ghost use Rattle.std.specs.Prelude.{◌≡◌};
 ghost use Rattle.ftp_dialogue.specs.Dialogue.{rule_by};
 ghost use Rattle.ftp_dialogue.specs.Sound.{SoundCounts, cannot_open, is_live, is_owed, left_behind, next_number, no_transfers, one_aborted, one_drained, one_finished, one_more};
 ghost use Rattle.ftp_dialogue.specs.State.{IsFirst};
-ghost use Rattle.ftp_dialogue.specs.Unanswered.{after_faulty, answered_by, is_preliminary, missed, one_counted};
+ghost use Rattle.ftp_dialogue.specs.Unanswered.{after_faulty, answered_by, missed, one_counted};
 
 use ftp_base::encoding::WelcomeMessage;
 use ftp_base::status::Status;
-use ftp_base::types::{ActivePeerCheck, FtpError, Mode};
+use ftp_base::types::{ActivePeerCheck, FtpError, Mode, Response};
 use ftp_control::control::ReplyRule;
 use std::marker::Model;
 use std::time::Duration;
@@ -57,13 +57,6 @@ impl Drop for Settings {
         } = self;
         drop(active_peer_check);
     }
-}
-
-/// Whether another reply follows one of this status.
-fn is_preliminary(status: Status) -> bool
-    ensures { result ≡ is_preliminary status }
-{
-    matches!(status.code(), 100..=199)
 }
 
 /// The rule of lenient replies, or of strict ones.
@@ -348,15 +341,15 @@ impl State {
         }
     }
 
-    /// A reply of this status was read. Where replies are due to dropped commands it settles a transfer that was left, or
-    /// answers one of them; a preliminary reply (RFC 959, section 4.2.1) and the 426 of an abort count for none.
-    pub fn answer(&mut self, status: Status)
-        ensures { self.new ≡ answered_by status self.old }
+    /// This reply was read. Where replies are due to dropped commands it settles a transfer that was left, or answers one
+    /// of them; a preliminary reply (RFC 959, section 4.2.1) and the 426 of an abort count for none.
+    pub fn answer(&mut self, reply: &Response)
+        ensures { self.new ≡ answered_by reply.now self.old }
     {
-        if self.unanswered == 0 || is_preliminary(status) {
+        if self.unanswered == 0 || reply.is_preliminary() {
             return;
         }
-        if self.aborting && status.code() == Status::TransferAborted.code() {
+        if self.aborting && reply.status.code() == Status::TransferAborted.code() {
             self.aborting = false;
         } else {
             self.count();
@@ -368,7 +361,7 @@ impl State {
         ensures { self.new ≡ after_faulty fault.now self.old }
     {
         match fault {
-            FtpError::UnexpectedResponse(reply) => self.answer(reply.status),
+            FtpError::UnexpectedResponse(reply) => self.answer(reply),
             FtpError::BadResponse => {
                 if self.unanswered > 0 {
                     self.count();

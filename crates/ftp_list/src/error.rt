@@ -17,13 +17,13 @@ pub type ParseResult<T> = Result<T, ParseError>;
 #[derive(Debug, PartialEq, Eq, Drop, Error)]
 pub enum ParseError {
     /// The line doesn't have the form, or a fact has a value that it cannot have.
-    #[error("syntax error in the listing line")]
+    #[error("Syntax error: invalid line")]
     SyntaxError,
     /// A date or a time of day that does not exist.
-    #[error("invalid date in the listing line")]
+    #[error("Invalid date")]
     InvalidDate,
     /// A size that is no number or is above 2^64 - 1.
-    #[error("invalid file size in the listing line")]
+    #[error("Bad file size")]
     BadSize,
     /// An allocation failed.
     #[error("out of memory")]

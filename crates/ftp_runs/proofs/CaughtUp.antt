@@ -9,7 +9,7 @@ use Rattle.ftp_transport.specs.declared.room.Room.TheVariants.{Any}
 use Rattle.ftp_control.specs.Reading.{GoesOn}
 use Rattle.ftp_calls.specs.declared.call.Answer.{Answer}
 use Rattle.ftp_calls.specs.declared.call.Answer.TheVariants.{Unit as Nothing, Fault}
-use Rattle.ftp_dialogue.specs.CatchingUp.{After, CatchesUp, Flushes, ReadsDue, ReadsDueUnless, ReadsIf, TellsFault, flushing, told_by}
+use Rattle.ftp_dialogue.specs.CatchingUp.{After, CatchesUp, Flushes, ReadsDue, ReadsIf, TellsFault, flushing, is_caught_up, told_by}
 use Rattle.ftp_dialogue.specs.Dialogue.{Tree, Leaf, expecting}
 use Rattle.ftp_dialogue.specs.Link.{Builds, Link, builds_nothing, over_memory, plain}
 use Rattle.ftp_dialogue.specs.NetEvents.{Constructed, Dropped, Handshook, Moved, Net, NetEvent, NetEvents, Parted, Requested}
@@ -150,21 +150,17 @@ read_went heard old new reads = go old.channel.failed refl reads
 
 -- as long as some are due
 
-due_went : (left : ℕ) (old new : SessionValue) (result : Poll (Option FtpError)) → ReadsDue left mem old new result → Went old new result
+due_went : (plain : Bool) (left : ℕ) (old new : SessionValue) (result : Poll (Option FtpError)) → ReadsDue plain left mem old new result → Went old new result
 unfolding ReadsDue
-due_went zero old new result ends = went_nowhere old new result (Ready (Some faults.BadResponse)) ends.0 ends.1
-due_went (suc left) old new result reads = go (λ v w r. due_went left v w r) (eqb old.state.unanswered 0) reads
+due_went plain zero old new result ends = went_nowhere old new result (Ready (Some faults.BadResponse)) ends.0 ends.1
+due_went plain (suc left) old new result reads = go (λ v w r. due_went plain left v w r) (is_caught_up plain old.state) reads
   where
-    go : ((v w : SessionValue) (r : Poll (Option FtpError)) → ReadsDue left mem v w r → Went v w r) → (b : Bool) → ReadsIf b mem (λ v w r. ReadsDue left mem v w r) old new result → Went old new result
+    go : ((v w : SessionValue) (r : Poll (Option FtpError)) → ReadsDue plain left mem v w r → Went v w r) → (b : Bool) → ReadsIf b mem (λ v w r. ReadsDue plain left mem v w r) old new result → Went old new result
     go others true none = went_nowhere old new result (Ready None) none.0 none.1
-    go others false one = went_after (λ v w r. ReadsDue left mem v w r) (told_by one.heard) old one.middle new result (others one.middle new result) (read_went one.heard old one.middle one.reads) one.then_reads
+    go others false one = went_after (λ v w r. ReadsDue plain left mem v w r) (told_by one.heard) old one.middle new result (others one.middle new result) (read_went one.heard old one.middle one.reads) one.then_reads
 
 pub up_went : (plain_read : Bool) (old new : SessionValue) (result : Poll (Option FtpError)) → CatchesUp mem plain_read old new result → Went old new result
-up_went plain_read old new result up = went_after (ReadsDueUnless plain_read mem) up.flush old up.flushed new result (due plain_read) (flush_went up.flush old up.flushed up.flushes) up.then_reads
-  where
-    due : (b : Bool) → ReadsDueUnless b mem up.flushed new result → Went up.flushed new result
-    due true none = went_nowhere up.flushed new result (Ready None) none.0 none.1
-    due false reads = due_went most_commands up.flushed new result reads
+up_went plain_read old new result up = went_after (ReadsDue plain_read most_commands mem) up.flush old up.flushed new result (due_went plain_read most_commands up.flushed new result) (flush_went up.flush old up.flushed up.flushes) up.then_reads
 
 -- what happens where nothing is asked of a builder happens where one may be
 asked_events : (builds : Builds) (answered : List NetEvent) (n m : Net) → NetEvents (plain builds_nothing) answered n m → NetEvents (plain builds) answered n m

@@ -381,10 +381,6 @@ through F v w a b state net before after is =
     let Q : Channel → SessionValue = λ c. record { channel = c; state = state; net = net } in
     subst P before (after ∙ ap Q is)
 
--- nothing happens beside the control connection
-pub grows_none : (builds : Builds) (v : SessionValue) → Grows builds v v
-grows_none builds v = ([], refl)
-
 -- an event that ends no script
 pub passes_on : (builds : Builds) (coding : Coding) (v w : SessionValue) (call call' : Option Call) (stage stage' : Stage) (course course' : Course) (event : Event) (result : Option Answer) (kind : Event) → event ≡ kind → parts_here call course v kind ≡ false → Happens builds coding v w call call' stage stage' course course' event result → Passes builds coding v w call call' stage stage' course course' event result
 passes_on builds coding v w call call' stage stage' course course' event result kind is none happens =

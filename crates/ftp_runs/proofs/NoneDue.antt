@@ -200,9 +200,9 @@ module _ (state : State) (even : IsEven state) where
   none_due : (state.unanswered == 0) ≡ true
   none_due = rw even refl
 
-  answered_even : (status : Status) → IsEven (answered_by status state)
-  answered_even status =
-      let P : Bool → Type 0 = λ b. IsEven (cond b state (counted_by status state)) in
+  answered_even : (reply : Response) → IsEven (answered_by reply state)
+  answered_even reply =
+      let P : Bool → Type 0 = λ b. IsEven (cond b state (counted_by reply state)) in
       subst P (sym none_due) even
 
   bad_even : IsEven (after_faulty faults.BadResponse state)
@@ -211,7 +211,7 @@ module _ (state : State) (even : IsEven state) where
       subst P (sym none_due) even
 
   faulty_even : (fault : FtpError) → IsEven (after_faulty fault state)
-  faulty_even (faults.UnexpectedResponse reply) = answered_even reply.status
+  faulty_even (faults.UnexpectedResponse reply) = answered_even reply
   faulty_even faults.BadResponse = bad_even
   faulty_even (faults.ConnectionError why) = even
   faulty_even (faults.SecureError text) = even
@@ -268,7 +268,7 @@ module _ (state : State) (even : IsEven state) where
     accepted_even : (how : Ending) (reply : Response) → StaysEven (accepted coding how state reply after)
     accepted_even ending.Done reply = even
     accepted_even ending.GivesReply reply = even
-    accepted_even ending.TakesReply reply = answered_even reply.status
+    accepted_even ending.TakesReply reply = answered_even reply
     accepted_even ending.Greets reply = even
     accepted_even ending.GivesPath reply = even
     accepted_even ending.GivesSecondLine reply = even

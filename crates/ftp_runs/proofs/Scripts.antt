@@ -446,10 +446,6 @@ module _ (builds : Builds) (coding : Coding) where
   at_most_one None = omega arith
   at_most_one (Some answer) = omega arith
 
-  pub on_err : (T E : Type 0) (result : Result T E) (P : Type 0) → P → OnErr result P
-  on_err T E (Ok value) P p = tt
-  on_err T E (Err error) P p = p
-
 -- what holds where a call failed goes on to what follows from it
 pub where_failed : (T E A B : Type 0) (result : Result T E) → (A → B) → OnErr result A → OnErr result B
 where_failed T E A B (Ok value) more held = tt

@@ -97,7 +97,7 @@ fn push_made(
         MakesOne call.now session.old.machine session.new.machine made) }
 {
     let before = session.get_ref().sent().len();
-    let asked = session.transport().asked().len();
+    let asked = session.transport().requests().len();
     let answers = match session.run(alloc, &(), slice::from_ref(call)) {
         Ok(answers) => answers,
         Err(_) => return Err(AllocError),
@@ -117,5 +117,5 @@ fn sent_after(session: &Session<MemoryTransport>, before: usize) -> &[u8]
 fn asked_after(session: &Session<MemoryTransport>, before: usize) -> &[Asked]
     ensures { result.now ≡ drop before session.now.machine.net.asked }
 {
-    session.transport().asked().get(before..).unwrap_or(&[])
+    session.transport().requests().get(before..).unwrap_or(&[])
 }

@@ -9,7 +9,7 @@ use Rattle.ftp_base.specs.declared.types.fault.FtpError.TheVariants as faults
 use Rattle.ftp_transport.specs.Told.{NoneFailed, Told}
 use Rattle.ftp_calls.specs.declared.call.Answer.TheVariants.{Fault}
 use Rattle.ftp_calls.specs.declared.call.Answer.TheVariants as answer
-use Rattle.ftp_dialogue.specs.CatchingUp.{After, CatchesUp, Flushes, ReadsDue, ReadsDueUnless, ReadsIf, ReadsOne, fault_told, flushing, told_by}
+use Rattle.ftp_dialogue.specs.CatchingUp.{After, CatchesUp, Flushes, ReadsDue, ReadsIf, ReadsOne, fault_told, flushing, is_caught_up, told_by}
 use Rattle.ftp_dialogue.specs.Counted.{CountsFaults}
 use Rattle.ftp_dialogue.specs.Dialogue.{Expected, Tree, Hear, Leaf, expecting}
 use Rattle.ftp_dialogue.specs.Link.{Link}
@@ -116,41 +116,37 @@ heard_caught link old new heard reads = go old.channel.failed refl reads
     go true failed refuses = refused heard failed refuses.0 refuses.1
     go false going counted = told heard counted
 
-pub due_caught : (link : Link) (left : ℕ) (old new : SessionValue) (fault : Option FtpError) → ReadsDue left link old new (Ready fault) → Caught link.tells old new fault
+pub due_caught : (link : Link) (plain : Bool) (left : ℕ) (old new : SessionValue) (fault : Option FtpError) → ReadsDue plain left link old new (Ready fault) → Caught link.tells old new fault
 unfolding ReadsDue
-due_caught link zero old new fault ends = caught_same link.tells old new fault (Some faults.BadResponse) ends.0 (of_one link.tells old new faults.BadResponse (λ grave. grave))
-due_caught link (suc left) old new fault reads = go (λ v w f r. due_caught link left v w f r) (eqb old.state.unanswered 0) reads
+due_caught link plain zero old new fault ends = caught_same link.tells old new fault (Some faults.BadResponse) ends.0 (of_one link.tells old new faults.BadResponse (λ grave. grave))
+due_caught link plain (suc left) old new fault reads = go (λ v w f r. due_caught link plain left v w f r) (is_caught_up plain old.state) reads
   where
-    one : ((v w : SessionValue) (f : Option FtpError) → ReadsDue left link v w (Ready f) → Caught link.tells v w f) → (r : ReadsOne link (λ v w x. ReadsDue left link v w x) old new (Ready fault)) → Caught link.tells old new fault
+    one : ((v w : SessionValue) (f : Option FtpError) → ReadsDue plain left link v w (Ready f) → Caught link.tells v w f) → (r : ReadsOne link (λ v w x. ReadsDue plain left link v w x) old new (Ready fault)) → Caught link.tells old new fault
     one others r = heard r.heard r.reads r.then_reads
       where
-        then : (told : Option FtpError) → Caught link.tells old r.middle told → After (λ v w x. ReadsDue left link v w x) (Ready told) r.middle new (Ready fault) → Caught link.tells old new fault
+        then : (told : Option FtpError) → Caught link.tells old r.middle told → After (λ v w x. ReadsDue plain left link v w x) (Ready told) r.middle new (Ready fault) → Caught link.tells old new fault
         then None first more = caught_on link.tells old r.middle new fault first (others r.middle new fault more)
         then (Some why) first ends =
             let P : SessionValue → Type 0 = λ v. Caught link.tells old v fault in
             subst P (sym ends.1) (caught_same link.tells old r.middle fault (Some why) ends.0 first)
 
-        heard : (h : Poll (Result Response FtpError)) → ReadsAlone link (expecting []) old r.middle h → After (λ v w x. ReadsDue left link v w x) (told_by h) r.middle new (Ready fault) → Caught link.tells old new fault
+        heard : (h : Poll (Result Response FtpError)) → ReadsAlone link (expecting []) old r.middle h → After (λ v w x. ReadsDue plain left link v w x) (told_by h) r.middle new (Ready fault) → Caught link.tells old new fault
         heard (Ready found) alone after = then (fault_told found) (heard_caught link old r.middle found alone) after
         heard Pending alone after = (let wrong : Ready fault ≡ Pending = after.0 in cc)
 
-    go : ((v w : SessionValue) (f : Option FtpError) → ReadsDue left link v w (Ready f) → Caught link.tells v w f) → (b : Bool) → ReadsIf b link (λ v w x. ReadsDue left link v w x) old new (Ready fault) → Caught link.tells old new fault
+    go : ((v w : SessionValue) (f : Option FtpError) → ReadsDue plain left link v w (Ready f) → Caught link.tells v w f) → (b : Bool) → ReadsIf b link (λ v w x. ReadsDue plain left link v w x) old new (Ready fault) → Caught link.tells old new fault
     go others true none = caught_here link.tells old new fault none.1 (caught_same link.tells old old fault None none.0 (nothing_caught link.tells old))
     go others false r = one others r
 
 pub up_caught : (link : Link) (plain : Bool) (old new : SessionValue) (fault : Option FtpError) → CatchesUp link plain old new (Ready fault) → Caught link.tells old new fault
 up_caught link plain old new fault up = go up.flush up.flushes up.then_reads
   where
-    due : (b : Bool) → ReadsDueUnless b link up.flushed new (Ready fault) → Caught link.tells up.flushed new fault
-    due true none = caught_here link.tells up.flushed new fault none.1 (caught_same link.tells up.flushed up.flushed fault None none.0 (nothing_caught link.tells up.flushed))
-    due false reads = due_caught link most_commands up.flushed new fault reads
-
-    then : (told : Option FtpError) → Caught link.tells old up.flushed told → After (ReadsDueUnless plain link) (Ready told) up.flushed new (Ready fault) → Caught link.tells old new fault
-    then None first more = caught_on link.tells old up.flushed new fault first (due plain more)
+    then : (told : Option FtpError) → Caught link.tells old up.flushed told → After (ReadsDue plain most_commands link) (Ready told) up.flushed new (Ready fault) → Caught link.tells old new fault
+    then None first more = caught_on link.tells old up.flushed new fault first (due_caught link plain most_commands up.flushed new fault more)
     then (Some why) first ends =
         let P : SessionValue → Type 0 = λ v. Caught link.tells old v fault in
         subst P (sym ends.1) (caught_same link.tells old up.flushed fault (Some why) ends.0 first)
 
-    go : (flush : Poll (Option FtpError)) → Flushes link old up.flushed flush → After (ReadsDueUnless plain link) flush up.flushed new (Ready fault) → Caught link.tells old new fault
+    go : (flush : Poll (Option FtpError)) → Flushes link old up.flushed flush → After (ReadsDue plain most_commands link) flush up.flushed new (Ready fault) → Caught link.tells old new fault
     go (Ready told) flushes after = then told (flush_caught link old up.flushed told flushes) after
     go Pending flushes after = (let wrong : Ready fault ≡ Pending = after.0 in cc)

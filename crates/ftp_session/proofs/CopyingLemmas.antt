@@ -84,13 +84,6 @@ so_far_more tells text r s t old mid new after after' count size piece far taken
       last = sent.last;
     }
 
--- the source has given nothing more
-pub so_far_kept : (tells : Type 0) (text : Bool) (r s t : Option (List ℕ)) (old new : TransferValue) (after : Bool) (count : ℕ) → SoFar tells text r s old new after count → Keeps s t → SoFar tells text r t old new after count
-so_far_kept tells text r s t old new after count far keeps = record {
-  copied = record { given = far.copied.given; taken = Consumes-kept r s t far.copied.given far.copied.taken keeps; wrote = far.copied.wrote; counted = far.copied.counted };
-  last = far.last;
-}
-
 -- other errors aren't that of a source that is too large
 pub io_is_other : (kind : ErrorKind) (size : ℕ) → TooLarge (ConnectionError (Io kind)) size
 io_is_other kind size same = let clash : ConnectionError (Io kind) ≡ ConnectionError SourceTooLarge = same in cc

@@ -125,14 +125,6 @@ settles_by link coding receipt old middle new answer begun begins after = unless
         (then.0, then.1 ∙ begins.1)
     unless false begins = owing (is_owed receipt.number old.state.counts.owed) begins
 
--- what the look at a receipt results in, where its transfer is owed
-pub begins_owed : (receipt : End) (old middle : SessionValue) (number : ℕ) (failed owed : Bool) → number ≡ receipt.number → failed ≡ old.channel.failed → failed ≡ false → owed ≡ is_owed number old.state.counts.owed → owed ≡ true → middle ≡ left_if true old → BeginsToSettle receipt old middle (Ok true)
-begins_owed receipt old middle number failed owed numbers fails going is owed_now left =
-    let P : Bool → Type 0 = λ b. BeginsToSettleIf b old middle (Ok true) in
-    let R : Bool → Type 0 = λ b. BeginsToSettleUnless b receipt old middle (Ok true) in
-    let held : is_owed receipt.number old.state.counts.owed ≡ true = ap (λ n. is_owed n old.state.counts.owed) (sym numbers) ∙ sym is ∙ owed_now in
-    subst R (sym (sym fails ∙ going)) (subst P (sym held) (refl, left))
-
 -- then its transfer is left
 left_owed : (number : ℕ) (o : Owed) → is_owed number o ≡ true → none_left (left_of o) ≡ false
 left_owed number owed.Nothing is = let clash : false ≡ true = is in cc
@@ -175,14 +167,6 @@ opens_replied link coding call direction mark after former kept old new opened r
     go (Ok both) made = record { between = made.between; looks = made.looks; goes_on = (made.goes_on.0, made.goes_on.2) }
     go (Err fault) made = record { between = made.between; looks = made.looks; goes_on = made.goes_on }
 
--- an opening call after the look
-pub opens_seen : (link : Link) (coding : Coding) (call : Result Call AllocError) (copy made : Call) (replies : Bool) (direction : Direction) (mark between after former kept : Option End) (old seen new : SessionValue) (result : Result (Option Response × TransferValue) FtpError) → call ≡ Ok copy → IfOk call (λ c. c ≡ made) → LooksIf (watches mark old) mark between → seen ≡ as_seen between old → OpensEither link coding copy replies direction between after former kept seen new result → OpensAs link coding made replies direction mark after former kept old new result
-opens_seen link coding call copy made replies direction mark between after former kept old seen new result is same looks sees opens =
-    let P : Result Call AllocError → Type 0 = λ r. IfOk r (λ c. c ≡ made) in
-    let Q : Call → Type 0 = λ c. OpensEither link coding c replies direction between after former kept seen new result in
-    let R : SessionValue → Type 0 = λ v. OpensEither link coding made replies direction between after former kept v new result in
-    record { between = between; looks = looks; goes_on = subst R sees (subst Q (subst P is same) opens) }
-
 -- an opening call that isn't made, since memory ran out
 pub opens_withheld : (link : Link) (coding : Coding) (call : Call) (replies : Bool) (direction : Direction) (mark former : Option End) (v : SessionValue) → HandsConnection replies call → OpensEither link coding call replies direction mark mark former former v v (Err (withheld v))
 opens_withheld link coding call replies direction mark former v hands =
@@ -206,11 +190,6 @@ hands_opens link coding call replies direction end mark after former kept old gi
         let is = opened strays.no_fault (opening_answers link replies coding call old given answer connection plays) in
         let P : ℕ → Type 0 = λ n. (is_none given.net.data_conn ≡ true) ⊎ (is_live n given.state.counts.owed ≡ false) in
         inr (record { opened = is; lacks = subst P numbers (strays.lacks is); is = strays.is; left = strays.left })
-
--- whether an opening call that returned a transfer returned its reply
-pub hands_reply : (replies : Bool) (direction : Direction) (end : End) (mark after former kept : Option End) (given new : SessionValue) (answer : Answer) (result : Result (Option Response × TransferValue) FtpError) → HandsOver replies direction end answer mark after former kept given new result → IfOk result (λ opened. is_none opened.0 ≡ not replies)
-hands_reply replies direction end mark after former kept given new answer (Ok opened) hands = hands.1
-hands_reply replies direction end mark after former kept given new answer (Err fault) hands = tt
 
 -- an opening call isn't made, after the look, since memory ran out
 pub opens_out : (link : Link) (coding : Coding) (call : Call) (replies : Bool) (direction : Direction) (mark after former : Option End) (old seen : SessionValue) → LooksIf (watches mark old) mark after → seen ≡ as_seen after old → HandsConnection replies call → OpensAs link coding call replies direction mark after former former old seen (Err (withheld seen))

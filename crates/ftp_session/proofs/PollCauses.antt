@@ -384,13 +384,13 @@ module _ (link : Link) (may_wait : Type 0) (coding : Coding) where
     caught_happens : (v middle : SessionValue) → CatchesUp (unasked link) (is_plain_read called) v middle (Ready None) → Happens link v.net middle.net
     caught_happens v middle up = asked_happens link v.net middle.net (up_happens (unasked link) (is_plain_read called) v middle up)
 
-    step_grounds : (stage' : Stage) (v w : SessionValue) (told : Answer) → PollsInStep link may_wait coding called stage stage' v w (Ready told) → Grounds link Besides v w told
-    step_grounds stage' v w told step = go (is_behind called v) step.polls
+    step_grounds : (stage' : Stage) (behind : Bool) (v w : SessionValue) (told : Answer) → PollsInStep link may_wait coding called stage stage' behind v w (Ready told) → Grounds link Besides v w told
+    step_grounds stage' behind v w told step = go (is_behind called v) step.polls
       where
         P : Answer → Type 0
         P a = Grounds link Besides v w a
 
-        caught : (c : CatchesUpThenPolls link may_wait coding called stage stage' v w (Ready told)) → Grounds link Besides v w told
+        caught : (c : CatchesUpThenPolls link may_wait coding called stage stage' behind v w (Ready told)) → Grounds link Besides v w told
         caught c = first c.caught c.catches_up c.then_polls
           where
             then : (ends : Bool) → CatchesUp (unasked link) (is_plain_read called) v c.middle (Ready None) → EndsOrPolls ends link may_wait coding called stage stage' c.middle w (Ready told) → Grounds link Besides v w told
@@ -406,14 +406,14 @@ module _ (link : Link) (may_wait : Type 0) (coding : Coding) where
                 subst P (sym (ready_is told (Fault fault) same)) (subst Q (sym stays) (counted_grounds link Besides v c.middle (Fault fault) (up_caught (unasked link) (is_plain_read called) v c.middle (Some fault) up)))
             first Pending up waits = not_pending told waits.0
 
-        go : (b : Bool) → PollsInStepIf b link may_wait coding called stage stage' v w (Ready told) → Grounds link Besides v w told
-        go false next = next_grounds stage' v w told next
+        go : (b : Bool) → PollsInStepIf b link may_wait coding called stage stage' behind v w (Ready told) → Grounds link Besides v w told
+        go false next = next_grounds stage' v w told next.1
         go true c = caught c
 
-    step_keeps : (stage' : Stage) (v w : SessionValue) → PollsInStep link may_wait coding called stage stage' v w Pending → KeepsOn link called (keeps stage) (keeps stage') v w
-    step_keeps stage' v w step = go (is_behind called v) step.polls
+    step_keeps : (stage' : Stage) (behind : Bool) (v w : SessionValue) → PollsInStep link may_wait coding called stage stage' behind v w Pending → KeepsOn link called (keeps stage) (keeps stage') v w
+    step_keeps stage' behind v w step = go (is_behind called v) step.polls
       where
-        caught : (c : CatchesUpThenPolls link may_wait coding called stage stage' v w Pending) → KeepsOn link called (keeps stage) (keeps stage') v w
+        caught : (c : CatchesUpThenPolls link may_wait coding called stage stage' behind v w Pending) → KeepsOn link called (keeps stage) (keeps stage') v w
         caught c = first c.caught c.catches_up c.then_polls
           where
             then : (ends : Bool) → CatchesUp (unasked link) (is_plain_read called) v c.middle (Ready None) → EndsOrPolls ends link may_wait coding called stage stage' c.middle w Pending → KeepsOn link called (keeps stage) (keeps stage') v w
@@ -425,8 +425,8 @@ module _ (link : Link) (may_wait : Type 0) (coding : Coding) where
             first (Ready (Some fault)) up (same, stays) = not_ready (Fault fault) same
             first Pending up waits = keeps_still link called stage stage' v w waits.2
 
-        go : (b : Bool) → PollsInStepIf b link may_wait coding called stage stage' v w Pending → KeepsOn link called (keeps stage) (keeps stage') v w
-        go false next = next_keeps stage' v w next
+        go : (b : Bool) → PollsInStepIf b link may_wait coding called stage stage' behind v w Pending → KeepsOn link called (keeps stage) (keeps stage') v w
+        go false next = next_keeps stage' v w next.1
         go true c = caught c
 
   -- a call under way, with the look
@@ -454,11 +454,11 @@ module _ (link : Link) (may_wait : Type 0) (coding : Coding) where
       go false seen =
           let same = looked_channel p.looks mark after old seen.seen seen.looks in
           let none : NoneFailed old.channel.told seen.seen.channel.told = record { failures = ap (λ c. c.told.failures) same; last_fault = ap (λ c. c.told.last_fault) same } in
-          after_part link Besides old seen.seen new told (λ h. none) (λ f. ap (λ c. c.failed) (sym same) ∙ f) (looked_happens p.looks mark after old seen.seen seen.looks) (step_grounds p.call p.stage at seen.stage seen.seen new told seen.polls)
+          after_part link Besides old seen.seen new told (λ h. none) (λ f. ap (λ c. c.failed) (sym same) ∙ f) (looked_happens p.looks mark after old seen.seen seen.looks) (step_grounds p.call p.stage at seen.stage seen.behind seen.seen new told seen.polls)
   polls_caused p q mark after old new Pending at polls = kept_caused link p.call (keeps p.stage) (keeps q.stage) old new (go p.over polls)
     where
       go : (b : Bool) → PollsUnless b link may_wait coding p q mark after old new Pending → KeepsOn link p.call (keeps p.stage) (keeps q.stage) old new
       go true over = not_ready (Fault (faults.ConnectionError cause.AlreadyCompleted)) over.is
       go false seen =
           let P : Option FtpError → Type 0 = λ kept. KeepsOn link p.call (keeps p.stage) kept old new in
-          subst P (ap (λ x. keeps x.stage) (sym seen.next)) (keeps_after link p.call (keeps p.stage) (keeps seen.stage) old seen.seen new (looked_happens p.looks mark after old seen.seen seen.looks) (step_keeps p.call p.stage at seen.stage seen.seen new seen.polls))
+          subst P (ap (λ x. keeps x.stage) (sym seen.next)) (keeps_after link p.call (keeps p.stage) (keeps seen.stage) old seen.seen new (looked_happens p.looks mark after old seen.seen seen.looks) (step_keeps p.call p.stage at seen.stage seen.behind seen.seen new seen.polls))

@@ -223,13 +223,13 @@ module _ (link : Link) (may_wait : Type 0) (coding : Coding) where
       go true d = drained d
 
   -- and after the replies that are due to commands that were dropped
-  step_counted : (called : Call) (stage stage' : Stage) (v w : SessionValue) (told : Answer) → ((state : State) → Quiet (entered_tree coding called stage state)) → PollsInStep link may_wait coding called stage stage' v w (Ready told) → CountsFaults link.tells v w told
-  step_counted called stage stage' v w told quiet step = go (is_behind called v) step.polls
+  step_counted : (called : Call) (stage stage' : Stage) (behind : Bool) (v w : SessionValue) (told : Answer) → ((state : State) → Quiet (entered_tree coding called stage state)) → PollsInStep link may_wait coding called stage stage' behind v w (Ready told) → CountsFaults link.tells v w told
+  step_counted called stage stage' behind v w told quiet step = go (is_behind called v) step.polls
     where
       P : Answer → Type 0
       P a = CountsFaults link.tells v w a
 
-      caught : (c : CatchesUpThenPolls link may_wait coding called stage stage' v w (Ready told)) → CountsFaults link.tells v w told
+      caught : (c : CatchesUpThenPolls link may_wait coding called stage stage' behind v w (Ready told)) → CountsFaults link.tells v w told
       caught c = first c.caught c.catches_up c.then_polls
         where
           then : (ends : Bool) → Caught link.tells v c.middle None → EndsOrPolls ends link may_wait coding called stage stage' c.middle w (Ready told) → CountsFaults link.tells v w told
@@ -241,8 +241,8 @@ module _ (link : Link) (may_wait : Type 0) (coding : Coding) where
           first (Ready (Some fault)) up (same, stays) = subst P (sym (ready_is told (Fault fault) same)) (of_channel link.tells v v c.middle w (Fault fault) refl (ap (λ x. x.channel) stays) (up_caught (unasked link) (is_plain_read called) v c.middle (Some fault) up))
           first Pending up waits = (let wrong : Ready told ≡ Pending = waits.0 in cc)
 
-      go : (b : Bool) → PollsInStepIf b link may_wait coding called stage stage' v w (Ready told) → CountsFaults link.tells v w told
-      go false next = next_counts called stage stage' v w told quiet next
+      go : (b : Bool) → PollsInStepIf b link may_wait coding called stage stage' behind v w (Ready told) → CountsFaults link.tells v w told
+      go false next = next_counts called stage stage' v w told quiet next.1
       go true c = caught c
 
   -- a command under way, with the look
@@ -258,4 +258,4 @@ module _ (link : Link) (may_wait : Type 0) (coding : Coding) where
       go true over =
           let P : Answer → Type 0 = λ a. CountsFaults link.tells old new a in
           subst P (sym (ready_is told (Fault (faults.ConnectionError cause.AlreadyCompleted)) over.is)) (of_one link.tells old new (faults.ConnectionError cause.AlreadyCompleted) (λ grave. grave))
-      go false seen = of_channel link.tells seen.seen old new new told (looked p.looks seen.seen seen.looks) refl (step_counted p.call p.stage seen.stage seen.seen new told (entered_quiet coding p.call plain p.stage at) seen.polls)
+      go false seen = of_channel link.tells seen.seen old new new told (looked p.looks seen.seen seen.looks) refl (step_counted p.call p.stage seen.stage seen.behind seen.seen new told (entered_quiet coding p.call plain p.stage at) seen.polls)

@@ -18,7 +18,7 @@ use Rattle.ftp_dialogue.specs.State.{SessionValue}
 use Rattle.ftp_dialogue.specs.Steps.Polls.{StartsTo}
 use Rattle.ftp_dialogue.specs.declared.stage.Stage.{Stage}
 use Rattle.ftp_dialogue.specs.declared.stage.Stage.TheVariants.{At}
-use Rattle.ftp_session.specs.Polled.{DrainsFirst, IsOver, LooksFirst, EndsOrPolls, PollsCall, PollsInStep, PollsInStepIf, PollsNext, PollsNextIf, PollsUnless, ThenPolls, ThenStartsIf, UnderWay, after_poll}
+use Rattle.ftp_session.specs.Polled.{DrainsFirst, IsOver, LooksFirst, EndsOrPolls, PollsCall, PollsInStep, PollsInStepIf, PollsNext, PollsNextIf, PollsUnless, ThenPolls, ThenStartsIf, UnderWay, after_poll, still_behind}
 
 module _ (link : Link) (may_wait : Type 0) (coding : Coding) (call : Call) (stage stage' : Stage) (v w : SessionValue) (result : Poll Answer) where
   pub next_undue : due_of call v ≡ false → StartsTo link may_wait coding call stage stage' v w result → PollsNext link may_wait coding call stage stage' v w result
@@ -45,33 +45,8 @@ module _ (link : Link) (may_wait : Type 0) (coding : Coding) (call : Call) (stag
     pub next_waits : StartsTo link may_wait coding Drain (At First) at v middle Pending → result ≡ Pending → w ≡ middle → stage' ≡ stage → PollsNext link may_wait coding call stage stage' v w result
     next_waits drains is same stays = next_due due (record { middle = middle; first = Pending; at = at; drains = drains; then_starts = (is, same, stays) })
 
--- after the replies that are due to commands that were dropped
-module _ (link : Link) (may_wait : Type 0) (coding : Coding) (call : Call) (stage stage' : Stage) (v middle w : SessionValue) (result : Poll Answer) where
-  -- none are due
-  pub step_none : is_behind call v ≡ false → PollsNext link may_wait coding call stage stage' v w result → PollsInStep link may_wait coding call stage stage' v w result
-  step_none none polls =
-      let P : Bool → Type 0 = λ b. PollsInStepIf b link may_wait coding call stage stage' v w result in
-      record { polls = subst P (sym none) polls }
-
-  pub step_first : (caught : Poll (Option FtpError)) → is_behind call v ≡ true → CatchesUp (unasked link) (is_plain_read call) v middle caught → ThenPolls link may_wait coding call stage stage' caught middle w result → PollsInStep link may_wait coding call stage stage' v w result
-  step_first caught behind catches then =
-      let P : Bool → Type 0 = λ b. PollsInStepIf b link may_wait coding call stage stage' v w result in
-      record { polls = subst P (sym behind) (record { middle = middle; caught = caught; catches_up = catches; then_polls = then }) }
-
-  -- they were read, and the call is polled, or was one of those reads
-  pub step_over : (caught : Poll (Option FtpError)) → is_behind call v ≡ true → CatchesUp (unasked link) (is_plain_read call) v middle caught → caught ≡ Ready None → EndsOrPolls (drains call) link may_wait coding call stage stage' middle w result → PollsInStep link may_wait coding call stage stage' v w result
-  step_over caught behind catches is then =
-      let C : Poll (Option FtpError) → Type 0 = λ r. CatchesUp (unasked link) (is_plain_read call) v middle r in
-      step_first (Ready None) behind (subst C is catches) then
-
 -- a call that has no answer yet is polled after its look
-pub polls_seen : (link : Link) (may_wait : Type 0) (coding : Coding) (p q : UnderWay) (mark after : Option End) (old seen new : SessionValue) (stage : Stage) (result : Poll Answer) → p.over ≡ false → LooksFirst p.looks mark after old seen → PollsInStep link may_wait coding p.call p.stage stage seen new result → q ≡ after_poll result stage p → PollsCall link may_wait coding p q mark after old new result
-polls_seen link may_wait coding p q mark after old seen new stage result over looks polls next =
+pub polls_seen : (link : Link) (may_wait : Type 0) (coding : Coding) (p q : UnderWay) (mark after : Option End) (old seen new : SessionValue) (stage : Stage) (behind : Bool) (result : Poll Answer) → p.over ≡ false → LooksFirst p.looks mark after old seen → PollsInStep link may_wait coding p.call p.stage stage behind seen new result → q ≡ after_poll result stage behind p → PollsCall link may_wait coding p q mark after old new result
+polls_seen link may_wait coding p q mark after old seen new stage behind result over looks polls next =
     let P : Bool → Type 0 = λ b. PollsUnless b link may_wait coding p q mark after old new result in
-    subst P (sym over) (record { seen = seen; stage = stage; looks = looks; polls = polls; next = next })
-
--- one that has its answer isn't
-pub polls_over : (link : Link) (may_wait : Type 0) (coding : Coding) (p q : UnderWay) (mark after : Option End) (old new : SessionValue) (result : Poll Answer) → p.over ≡ true → IsOver p q mark after old new result → PollsCall link may_wait coding p q mark after old new result
-polls_over link may_wait coding p q mark after old new result over is =
-    let P : Bool → Type 0 = λ b. PollsUnless b link may_wait coding p q mark after old new result in
-    subst P (sym over) is
+    subst P (sym over) (record { seen = seen; stage = stage; behind = behind; looks = looks; polls = polls; next = next })

@@ -9,7 +9,7 @@ use Rattle.ftp_base.specs.declared.types.reply.Response.{Response}
 use Rattle.ftp_calls.specs.declared.call.Answer.TheVariants.{Fault}
 use Rattle.ftp_calls.specs.declared.call.Call.TheVariants as call
 use Rattle.ftp_transfer.specs.Mark.{End}
-use Rattle.ftp_dialogue.specs.CatchingUp.{FlushesReadIf, FlushesThenReads, Flushes, PollsReadInStep, ReadsThen, is_late}
+use Rattle.ftp_dialogue.specs.CatchingUp.{CatchesUp, CatchesUpReadIf, CatchesUpThenReads, PollsReadInStep, ReadsThen, is_late}
 use Rattle.ftp_dialogue.specs.Coding.{Coding}
 use Rattle.ftp_dialogue.specs.Counted.{CountsFaults}
 use Rattle.ftp_dialogue.specs.Dialogue.{Expected}
@@ -18,7 +18,7 @@ use Rattle.ftp_dialogue.specs.Reading.{DrainsThenReads, PollsDrain, PollsRead, P
 use Rattle.ftp_dialogue.specs.State.{SessionValue}
 use Rattle.ftp_session.specs.Handed.{ReadsSeen, as_seen}
 use Rattle.ftp_session.specs.Polled.{IfFails}
-use Rattle.ftp_session.proofs.CaughtUp.{flush_caught, given, read_faults}
+use Rattle.ftp_session.proofs.CaughtUp.{given, read_faults, up_caught}
 use Rattle.ftp_session.proofs.Counting.{seen_channel}
 use Rattle.ftp_session.proofs.Failures.{after_none, alone_counts, alone_keeps, no_fault, of_channel}
 
@@ -59,22 +59,22 @@ module _ (link : Link) (codes : Expected) (fault : FtpError) where
         go true drains = drained_faults old new drains
         go false reads = alone_faults old new reads
 
-    -- after the unsent tail of a line
-    flushed_faults : (old new : SessionValue) → FlushesThenReads link coding codes old new (Ready (Err fault)) → CountsFaults link.tells old new (Fault fault)
-    flushed_faults old new f = go f.flush f.flushes f.then_reads
+    -- after what is due before it
+    caught_faults : (old new : SessionValue) → CatchesUpThenReads link coding codes old new (Ready (Err fault)) → CountsFaults link.tells old new (Fault fault)
+    caught_faults old new c = go c.caught c.catches_up c.then_reads
       where
-        go : (flush : Poll (Option FtpError)) → Flushes link old f.flushed flush → ReadsThen flush link coding codes f.flushed new (Ready (Err fault)) → CountsFaults link.tells old new (Fault fault)
-        go (Ready None) flushes reads =
-            let kept = flush_caught link old f.flushed None flushes in
-            after_none link.tells old f.flushed new (Fault fault) kept.0 kept.1 (polled_faults f.flushed new reads)
-        go (Ready (Some why)) flushes (is, same) = of_part link.tells old f.flushed new fault why is same (flush_caught link old f.flushed (Some why) flushes)
-        go Pending flushes waits = (let wrong : ◌≡◌ {A = Poll (Result Response FtpError)} (Ready (Err fault)) Pending = waits.0 in cc)
+        go : (caught : Poll (Option FtpError)) → CatchesUp link true old c.middle caught → ReadsThen caught link coding codes c.middle new (Ready (Err fault)) → CountsFaults link.tells old new (Fault fault)
+        go (Ready None) catches reads =
+            let kept = up_caught link true old c.middle None catches in
+            after_none link.tells old c.middle new (Fault fault) kept.0 kept.1 (polled_faults c.middle new reads)
+        go (Ready (Some why)) catches (is, same) = of_part link.tells old c.middle new fault why is same (up_caught link true old c.middle (Some why) catches)
+        go Pending catches waits = (let wrong : ◌≡◌ {A = Poll (Result Response FtpError)} (Ready (Err fault)) Pending = waits.0 in cc)
 
     step_faults : (old new : SessionValue) → PollsReadInStep link coding codes old new (Ready (Err fault)) → CountsFaults link.tells old new (Fault fault)
     step_faults old new step = go (is_late old) step.reads
       where
-        go : (b : Bool) → FlushesReadIf b link coding codes old new (Ready (Err fault)) → CountsFaults link.tells old new (Fault fault)
-        go true flushes = flushed_faults old new flushes
+        go : (b : Bool) → CatchesUpReadIf b link coding codes old new (Ready (Err fault)) → CountsFaults link.tells old new (Fault fault)
+        go true catches = caught_faults old new catches
         go false polls = polled_faults old new polls
 
 -- after the look

@@ -60,10 +60,6 @@ Quiet (Secure next) = ⊥
 Quiet (Move movement next) = ⊥
 Quiet (Leaf answer state) = (fault : FtpError) → answer ≡ Fault fault → IsGrave fault → ⊥
 
--- a leaf whose answer is no error, or another one
-quiet_leaf : (told : Answer) (state : State) → ((fault : FtpError) → told ≡ Fault fault → ⊥) → Quiet (Leaf told state)
-quiet_leaf told state none = λ fault is grave. none fault is
-
 pub quiet_fault : (fault : FtpError) (state : State) → (IsGrave fault → ⊥) → Quiet (Leaf (Fault fault) state)
 quiet_fault fault state none = λ other is grave.
     let same : other ≡ fault = cc in

@@ -18,7 +18,7 @@ use Rattle.ftp_calls.specs.declared.call.Call.{Call}
 use Rattle.ftp_calls.specs.declared.call.Call.TheVariants as call
 use Rattle.ftp_calls.specs.declared.exchange.Turn.TheVariants.{Second}
 use Rattle.ftp_transfer.specs.Mark.{End}
-use Rattle.ftp_dialogue.specs.CatchingUp.{After, CatchesUp, Flushes, InStepIf, MakesThen, PlaysInStep, ReadsDue, ReadsDueUnless, ReadsIf, ReadsOne, fault_told, is_behind, is_plain_read, told_by}
+use Rattle.ftp_dialogue.specs.CatchingUp.{After, CatchesUp, Flushes, InStepIf, MakesThen, PlaysInStep, ReadsDue, ReadsIf, ReadsOne, fault_told, is_behind, is_caught_up, is_plain_read, told_by}
 use Rattle.ftp_dialogue.specs.Coding.{Coding}
 use Rattle.ftp_dialogue.specs.Counted.{CountsFailure, CountsFaults, CountsFaultsBeside, IsGivenBeside}
 use Rattle.ftp_dialogue.specs.Dialogue.{Tree, Hear, dialogue, expecting}
@@ -121,35 +121,31 @@ heard_happens link old new heard none reads = go old.channel.failed reads
     go true refuses = happens_to link old.net old.net new.net (ap (λ v. v.net) refuses.1) (nothing_happens link old.net)
     go false counted = told heard none counted
 
-due_happens : (link : Link) (left : ℕ) (old new : SessionValue) → ReadsDue left link old new (Ready None) → Happens link old.net new.net
+due_happens : (link : Link) (plain : Bool) (left : ℕ) (old new : SessionValue) → ReadsDue plain left link old new (Ready None) → Happens link old.net new.net
 unfolding ReadsDue
-due_happens link zero old new ends = (let wrong : Ready None ≡ Ready (Some faults.BadResponse) = ends.0 in cc)
-due_happens link (suc left) old new reads = go (λ v w r. due_happens link left v w r) (eqb old.state.unanswered 0) reads
+due_happens link plain zero old new ends = (let wrong : Ready None ≡ Ready (Some faults.BadResponse) = ends.0 in cc)
+due_happens link plain (suc left) old new reads = go (λ v w r. due_happens link plain left v w r) (is_caught_up plain old.state) reads
   where
-    one : ((v w : SessionValue) → ReadsDue left link v w (Ready None) → Happens link v.net w.net) → (r : ReadsOne link (λ v w x. ReadsDue left link v w x) old new (Ready None)) → Happens link old.net new.net
+    one : ((v w : SessionValue) → ReadsDue plain left link v w (Ready None) → Happens link v.net w.net) → (r : ReadsOne link (λ v w x. ReadsDue plain left link v w x) old new (Ready None)) → Happens link old.net new.net
     one others r = heard r.heard r.reads r.then_reads
       where
-        then : (found : Result Response FtpError) (why : Option FtpError) → fault_told found ≡ why → ReadsAlone link (expecting []) old r.middle (Ready found) → After (λ v w x. ReadsDue left link v w x) (Ready why) r.middle new (Ready None) → Happens link old.net new.net
+        then : (found : Result Response FtpError) (why : Option FtpError) → fault_told found ≡ why → ReadsAlone link (expecting []) old r.middle (Ready found) → After (λ v w x. ReadsDue plain left link v w x) (Ready why) r.middle new (Ready None) → Happens link old.net new.net
         then found None none alone after = happens_on link old.net r.middle.net new.net (heard_happens link old r.middle found none alone) (others r.middle new after)
         then found (Some why) none alone after = (let wrong : Ready None ≡ Ready (Some why) = after.0 in cc)
 
-        heard : (h : Poll (Result Response FtpError)) → ReadsAlone link (expecting []) old r.middle h → After (λ v w x. ReadsDue left link v w x) (told_by h) r.middle new (Ready None) → Happens link old.net new.net
+        heard : (h : Poll (Result Response FtpError)) → ReadsAlone link (expecting []) old r.middle h → After (λ v w x. ReadsDue plain left link v w x) (told_by h) r.middle new (Ready None) → Happens link old.net new.net
         heard (Ready found) alone after = then found (fault_told found) refl alone after
         heard Pending alone after = (let wrong : Ready None ≡ Pending = after.0 in cc)
 
-    go : ((v w : SessionValue) → ReadsDue left link v w (Ready None) → Happens link v.net w.net) → (b : Bool) → ReadsIf b link (λ v w x. ReadsDue left link v w x) old new (Ready None) → Happens link old.net new.net
+    go : ((v w : SessionValue) → ReadsDue plain left link v w (Ready None) → Happens link v.net w.net) → (b : Bool) → ReadsIf b link (λ v w x. ReadsDue plain left link v w x) old new (Ready None) → Happens link old.net new.net
     go others true none = happens_to link old.net old.net new.net (ap (λ v. v.net) none.1) (nothing_happens link old.net)
     go others false r = one others r
 
 pub up_happens : (link : Link) (plain : Bool) (old new : SessionValue) → CatchesUp link plain old new (Ready None) → Happens link old.net new.net
 up_happens link plain old new up = go up.flush up.flushes up.then_reads
   where
-    due : (b : Bool) → ReadsDueUnless b link up.flushed new (Ready None) → Happens link up.flushed.net new.net
-    due true none = happens_to link up.flushed.net up.flushed.net new.net (ap (λ v. v.net) none.1) (nothing_happens link up.flushed.net)
-    due false reads = due_happens link most_commands up.flushed new reads
-
-    go : (flush : Poll (Option FtpError)) → Flushes link old up.flushed flush → After (ReadsDueUnless plain link) flush up.flushed new (Ready None) → Happens link old.net new.net
-    go (Ready None) flushes after = happens_on link old.net up.flushed.net new.net (flush_happens link old up.flushed flushes) (due plain after)
+    go : (flush : Poll (Option FtpError)) → Flushes link old up.flushed flush → After (ReadsDue plain most_commands link) flush up.flushed new (Ready None) → Happens link old.net new.net
+    go (Ready None) flushes after = happens_on link old.net up.flushed.net new.net (flush_happens link old up.flushed flushes) (due_happens link plain most_commands up.flushed new after)
     go (Ready (Some why)) flushes after = (let wrong : Ready None ≡ Ready (Some why) = after.0 in cc)
     go Pending flushes after = (let wrong : Ready None ≡ Pending = after.0 in cc)
 

@@ -44,10 +44,6 @@ gave_none tells t = record { received = λ h. sym (append-nil t.told.received); 
 pub saved_none : (tells : Type 0) (w : Option (List ℕ)) (t : TransferValue) → SavedSoFar tells w w t t 0
 saved_none tells w t = record { given = []; gave = gave_none tells t; calm = λ h. refl; wrote = Appends-nil w; counted = refl }
 
--- memory ran out before anything came
-pub save_lacks : (tells : Type 0) (w : Option (List ℕ)) (t : TransferValue) → SaveFails tells w w t t OutOfMemory
-save_lacks tells w t = record { given = []; gave = gave_none tells t; cause = inl (Appends-nil w, inl refl) }
-
 module _ (tells : Type 0) (w v : Option (List ℕ)) (old mid new : TransferValue) (count : ℕ) (far : SavedSoFar tells w v old mid count) (kept : new ≡ with_told new.told mid) where
   stays : new ≡ with_told new.told old
   stays = kept ∙ ap (with_told new.told) far.gave.kept
@@ -67,17 +63,6 @@ module _ (tells : Type 0) (w v : Option (List ℕ)) (old mid new : TransferValue
     calm = λ h. ap (λ t. t.failures) (came h) ∙ far.calm h;
     wrote = Appends-trans w v u far.given piece far.wrote wrote;
     counted = sum ∙ ap (λ n. n + length piece) far.counted ∙ sym (length-append far.given piece);
-  }
-
-  -- the end of the data came
-  pub saved_all : (tells → new.told ≡ after_end mid.told) → Saved tells w v old new count
-  saved_all came = record {
-    given = far.given;
-    gave = record { received = λ h. ap (λ t. t.received) (came h) ∙ far.gave.received h; kept = stays };
-    ended = λ h. ap (λ t. t.ended) (came h);
-    calm = λ h. ap (λ t. t.failures) (came h) ∙ far.calm h;
-    wrote = far.wrote;
-    counted = far.counted;
   }
 
   -- the data connection failed

@@ -1,6 +1,6 @@
--- A call that is polled: the look at its first poll, the last reply of a transfer that was left, and the call itself. RFC
+-- A call that is polled: the look before it says anything, the last reply of a transfer that was left, and the call itself. RFC
 -- 959, sections 3.2 and 5.4.
-use Rattle.std.specs.Prelude.{◌≡◌, ◌⊎◌, ℕ, Bool, true, false, IfErr, Option, Some, None, Result, Ok, Err, is_none, not}
+use Rattle.std.specs.Prelude.{◌≡◌, ◌⊎◌, ◌&&◌, ℕ, Bool, true, false, IfErr, Option, Some, None, Result, Ok, Err, is_none, not}
 use Rattle.futures.specs.declared.task.Poll.{Poll}
 use Rattle.futures.specs.declared.task.Poll.TheVariants.{Ready, Pending}
 use Rattle.ftp_base.specs.declared.types.reply.Response.{Response}
@@ -37,12 +37,13 @@ pub record UnderWay : Type 0 where
   pub over : Bool
   pub stage : Stage
 
--- after a poll: it has its answer, or stands at this stage
-abbrev pub after_poll : Poll Answer → Stage → UnderWay → UnderWay
-after_poll (Ready answer) stage p = record p { looks = false; over = true; stage = At First }
-after_poll Pending stage p = record p { looks = false; stage = stage }
+-- after a poll: it has its answer, or stands at this stage; it looks again as long as it waits for replies that were due
+-- before it
+abbrev pub after_poll : Poll Answer → Stage → Bool → UnderWay → UnderWay
+after_poll (Ready answer) stage behind p = record p { looks = false; over = true; stage = At First }
+after_poll Pending stage behind p = record p { looks = p.looks && behind; stage = stage }
 
--- one look at the mark, at the first poll
+-- one look at the mark, at a poll before which nothing of the call was said
 abbrev pub LooksFirst : Bool → Option End → Option End → SessionValue → SessionValue → Type 0
 LooksFirst true mark after old seen = LooksIf (watches mark old) mark after × (seen ≡ as_seen after old)
 LooksFirst false mark after old seen = (after ≡ mark) × (seen ≡ old)
@@ -84,26 +85,34 @@ ThenPolls link may_wait coding call stage stage' (Ready None) middle new result 
 ThenPolls link may_wait coding call stage stage' (Ready (Some fault)) middle new result = (result ≡ Ready (Fault fault)) × (new ≡ middle)
 ThenPolls link may_wait coding call stage stage' Pending middle new result = (result ≡ Pending) × (new ≡ middle) × (stage' ≡ stage)
 
-pub record CatchesUpThenPolls (link : Link) (may_wait : Type 0) (coding : Coding) (call : Call) (stage stage' : Stage) (old new : SessionValue) (result : Poll Answer) : Type 0 where
+-- those replies are waited for
+abbrev pub still_behind : Poll (Option FtpError) → Bool
+still_behind (Ready told) = false
+still_behind Pending = true
+
+pub record CatchesUpThenPolls (link : Link) (may_wait : Type 0) (coding : Coding) (call : Call) (stage stage' : Stage) (behind : Bool) (old new : SessionValue) (result : Poll Answer) : Type 0 where
   pub middle : SessionValue
   pub caught : Poll (Option FtpError)
   pub catches_up : CatchesUp (unasked link) (is_plain_read call) old middle caught
   pub then_polls : ThenPolls link may_wait coding call stage stage' caught middle new result
+  pub still : behind ≡ still_behind caught
 
-abbrev pub PollsInStepIf : Bool → Link → Type 0 → Coding → Call → Stage → Stage → SessionValue → SessionValue → Poll Answer → Type 0
-PollsInStepIf true link may_wait coding call stage stage' old new result = CatchesUpThenPolls link may_wait coding call stage stage' old new result
-PollsInStepIf false link may_wait coding call stage stage' old new result = PollsNext link may_wait coding call stage stage' old new result
+abbrev pub PollsInStepIf : Bool → Link → Type 0 → Coding → Call → Stage → Stage → Bool → SessionValue → SessionValue → Poll Answer → Type 0
+PollsInStepIf true link may_wait coding call stage stage' behind old new result = CatchesUpThenPolls link may_wait coding call stage stage' behind old new result
+PollsInStepIf false link may_wait coding call stage stage' behind old new result = (behind ≡ false) × PollsNext link may_wait coding call stage stage' old new result
 
-pub record PollsInStep (link : Link) (may_wait : Type 0) (coding : Coding) (call : Call) (stage stage' : Stage) (old new : SessionValue) (result : Poll Answer) : Type 0 where
-  pub polls : PollsInStepIf (is_behind call old) link may_wait coding call stage stage' old new result
+-- where none is due the call is polled at once; else it may still be behind, and has said nothing
+pub record PollsInStep (link : Link) (may_wait : Type 0) (coding : Coding) (call : Call) (stage stage' : Stage) (behind : Bool) (old new : SessionValue) (result : Poll Answer) : Type 0 where
+  pub polls : PollsInStepIf (is_behind call old) link may_wait coding call stage stage' behind old new result
 
 -- a poll of a call that has no answer yet
 pub record PollsSeen (link : Link) (may_wait : Type 0) (coding : Coding) (p q : UnderWay) (mark after : Option End) (old new : SessionValue) (result : Poll Answer) : Type 0 where
   pub seen : SessionValue
   pub stage : Stage
+  pub behind : Bool
   pub looks : LooksFirst p.looks mark after old seen
-  pub polls : PollsInStep link may_wait coding p.call p.stage stage seen new result
-  pub next : q ≡ after_poll result stage p
+  pub polls : PollsInStep link may_wait coding p.call p.stage stage behind seen new result
+  pub next : q ≡ after_poll result stage behind p
 
 -- a call that has its answer gives none a second time, and nothing happens
 pub record IsOver (p q : UnderWay) (mark after : Option End) (old new : SessionValue) (result : Poll Answer) : Type 0 where

@@ -120,7 +120,7 @@ resume_tree offset state = Leaf Unit (armed offset state)
 
 -- one reply of these statuses, which is that of a command that was dropped where one is due; nothing is sent
 abbrev pub taken_reply : State → Result Response FtpError → Tree
-taken_reply state (Ok reply) = Leaf (Reply reply) (answered_by reply.status state)
+taken_reply state (Ok reply) = Leaf (Reply reply) (answered_by reply state)
 taken_reply state (Err fault) = Leaf (Fault fault) (after_faulty fault state)
 
 abbrev pub read_tree : List Status → State → Tree

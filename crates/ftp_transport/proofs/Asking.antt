@@ -9,6 +9,7 @@ use Rattle.ftp_transport.specs.declared.request.Request.{Request}
 use Rattle.ftp_transport.specs.declared.request.Request.TheVariants.{Connect}
 use Rattle.ftp_transport.specs.declared.request.RequestOutcome.TheVariants.{Refused}
 use Rattle.ftp_transport.specs.declared.supply.Supply.{Supply}
+use Rattle.ftp_transport.specs.Memory.{address_of, addresses_of}
 use Rattle.ftp_transport.specs.Asking.{requests_of, outcomes_of, connects_to, recorded, IsDue, AreRefused, RefusedInTurn}
 
 pub requests-append : (a b : List Asked) → requests_of (a ++ b) ≡ requests_of a ++ requests_of b
@@ -18,6 +19,18 @@ requests-append (one ∷ a) b = ap (λ l. one.request ∷ l) (requests-append a 
 pub outcomes-append : (a b : List Asked) → outcomes_of (a ++ b) ≡ outcomes_of a ++ outcomes_of b
 outcomes-append [] b = refl
 outcomes-append (one ∷ a) b = ap (λ l. one.outcome ∷ l) (outcomes-append a b)
+
+addresses-append : (a b : List Asked) → addresses_of (a ++ b) ≡ addresses_of a ++ addresses_of b
+addresses-append [] b = refl
+addresses-append (one ∷ a) b = ap (λ l. address_of one.request ++ l) (addresses-append a b) ∙ sym (append_assoc (address_of one.request) (addresses_of a) (addresses_of b))
+
+-- one request more has its address after those of before, or none
+pub asked_more : (items : List Asked) (one : Asked) (before after : List SocketAddr) → before ≡ addresses_of items → after ≡ before ++ address_of one.request → after ≡ addresses_of (items ++ one ∷ [])
+asked_more items one before after is more =
+    more ∙ ap (λ l. l ++ address_of one.request) is ∙ ap (λ l. addresses_of items ++ l) (sym (append-nil (address_of one.request))) ∙ sym (addresses-append items (one ∷ []))
+
+pub asked_beside : (items : List Asked) (one : Asked) (before : List SocketAddr) → before ≡ addresses_of items → address_of one.request ≡ [] → before ≡ addresses_of (items ++ one ∷ [])
+asked_beside items one before is none = asked_more items one before before is (sym (append-nil before) ∙ ap (λ l. before ++ l) (sym none))
 
 module _ (refuses : List Supply → ConnectionError → Type 0) where
   -- one more was refused

@@ -9,6 +9,8 @@ use Rattle.std.specs.declared.io.ErrorKind.TheVariants.{ConnectionRefused}
 use Rattle.ftp_base.specs.declared.types.fault.ConnectionError.{ConnectionError}
 use Rattle.ftp_base.specs.declared.types.fault.ConnectionError.TheVariants.{Io, TimedOut}
 use Rattle.ftp_transport.specs.declared.request.Asked.{Asked}
+use Rattle.ftp_transport.specs.declared.request.Request.{Request}
+use Rattle.ftp_transport.specs.declared.request.Request.TheVariants.{Connect, Listen, Accept, Build}
 use Rattle.ftp_transport.specs.declared.supply.Supply.{Supply}
 use Rattle.ftp_transport.specs.declared.supply.Supply.TheVariants.{Connects, Peer, Refuses}
 use Rattle.ftp_transport.specs.Told.{Told}
@@ -66,6 +68,18 @@ pub record Asking : Type 0 where
 
 abbrev pub nothing_asked : Asking
 nothing_asked = record { answered = []; ready = []; closed = []; room = 0; port = 0 }
+
+-- the address of a connection or a listener that was asked for
+abbrev pub address_of : Request → List SocketAddr
+address_of (Connect address limit) = address ∷ []
+address_of (Listen address) = address ∷ []
+address_of (Accept deadline) = []
+address_of (Build address) = []
+
+-- those of all, in order
+abbrev pub addresses_of : List Asked → List SocketAddr
+addresses_of [] = []
+addresses_of (one ∷ others) = address_of one.request ++ addresses_of others
 
 -- what is next isn't for a connect: the list ended, or a peer is next
 abbrev pub NoConnectionNext : List Supply → Type 0

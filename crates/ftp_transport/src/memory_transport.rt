@@ -6,7 +6,7 @@
 ghost use Rattle.std.specs.Prelude.{◌≡◌, ◌<◌, OnErr, OnOk, [], ◌∷◌, ◌++◌, length, Ok};
 ghost use Rattle.futures.specs.declared.task.Poll.TheVariants as poll;
 ghost use Rattle.ftp_transport.specs.Asking.{Asks, Supplies, comes_as, connects_as, done};
-ghost use Rattle.ftp_transport.specs.Memory.{accepts_over_memory, binds_over_memory, nothing_asked, over_memory};
+ghost use Rattle.ftp_transport.specs.Memory.{accepts_over_memory, addresses_of, binds_over_memory, nothing_asked, over_memory};
 
 use super::{
     Accepted, Asked, Connected, Handshaken, Listening, MemoryConn, Network, Request,
@@ -25,7 +25,8 @@ use std::time::Duration;
 /// passes at once. A listen consumes no item.
 pub struct MemoryTransport {
     ready: VecDeque<Supply>,
-    asked: Vec<Asked>,
+    requests: Vec<Asked>,
+    addresses: Vec<SocketAddr>,
     closed: Vec<MemoryConn>,
     port: u16,
 }
@@ -34,12 +35,14 @@ impl Drop for MemoryTransport {
     fn drop(self) {
         let Self {
             ready,
-            asked,
+            requests,
+            addresses,
             closed,
             port: _,
         } = self;
         drop(ready);
-        drop(asked);
+        drop(requests);
+        drop(addresses);
         drop(closed);
     }
 }
@@ -49,18 +52,20 @@ impl Drop for MemoryTransport {
 pub struct MemoryListener;
 
 impl Model for MemoryTransport {
-    ghost use Rattle.std.specs.Prelude.{vec_capacity};
-    ghost use Rattle.ftp_transport.specs.Memory.{Asking};
+    ghost use Rattle.std.specs.Prelude.{◌≡◌, vec_capacity};
+    ghost use Rattle.ftp_transport.specs.Memory.{Asking, addresses_of};
 
     ghost Value = { Asking };
 
     ghost view = { λ t. record {
-      answered = t.asked.items;
+      answered = t.requests.items;
       ready = t.ready.items;
       closed = t.closed.items;
       room = vec_capacity t.closed;
       port = t.port;
     } };
+
+    ghost invariant = { λ t. t.addresses.items ≡ addresses_of t.requests.items };
 }
 
 impl MemoryTransport {
@@ -70,7 +75,8 @@ impl MemoryTransport {
     {
         MemoryTransport {
             ready: VecDeque::new(alloc),
-            asked: Vec::new(alloc),
+            requests: Vec::new(alloc),
+            addresses: Vec::new(alloc),
             closed: Vec::new(alloc),
             port: 0,
         }
@@ -98,11 +104,19 @@ impl MemoryTransport {
         self.port = port;
     }
 
-    /// What was asked, with its outcome, in order.
-    pub fn asked(&self) -> &[Asked]
+    /// The addresses that were asked for, in order: those of connections, and those of listeners, which ask for port 0.
+    pub fn asked(&self) -> &[SocketAddr]
+        ensures { result.now ≡ addresses_of self.now.answered }
+    {
+        self.addresses.as_slice()
+    }
+
+    /// All that was asked, with its outcome, in order: accepts, and what a builder was asked for in the transport's place,
+    /// too.
+    pub fn requests(&self) -> &[Asked]
         ensures { result.now ≡ self.now.answered }
     {
-        self.asked.as_slice()
+        self.requests.as_slice()
     }
 
     /// The data connections that are over, in order; `sent` of each is what was uploaded on it.
@@ -113,20 +127,27 @@ impl MemoryTransport {
     }
 
     /// What a connect results in. Where an allocation fails nothing was asked.
-    fn answer_connect(&mut self, request: Request) -> Connected<MemoryConn>
-        ensures asks { Asks request done (poll.Ready result) self.old.answered self.new.answered }
+    fn answer_connect(
+        &mut self,
+        address: SocketAddr,
+        limit: Option<Duration>,
+    ) -> Connected<MemoryConn>
+        ensures asks { Asks (Request.Connect address limit) done (poll.Ready result) self.old.answered self.new.answered }
         ensures supplies { Supplies (connects_as (λ c. c)) over_memory (poll.Ready result)
             self.old.ready self.new.ready }
         ensures others { self.new ≡
             record self.old { answered = self.new.answered; ready = self.new.ready } }
     {
-        self.asked.reserve(1)?;
+        self.requests.reserve(1)?;
+        self.addresses.reserve(1)?;
         let made = next_connection(&mut self.ready);
         let outcome = match &made {
             Ok(_) => RequestOutcome::Done,
             Err(fault) => RequestOutcome::Refused(*fault),
         };
-        self.asked.push(Asked { request, outcome }).unwrap();
+        let request = Request::Connect(address, limit);
+        self.requests.push(Asked { request, outcome }).unwrap();
+        self.addresses.push(address).unwrap();
         Ok(made)
     }
 }
@@ -191,10 +212,10 @@ impl Network for MemoryTransport {
     }
 
     fn note_build(&mut self, address: SocketAddr) -> Result<(), AllocError> {
-        self.asked.reserve(1)?;
+        self.requests.reserve(1)?;
         let request = Request::Build(address);
         let outcome = RequestOutcome::Done;
-        self.asked.push(Asked { request, outcome }).unwrap();
+        self.requests.push(Asked { request, outcome }).unwrap();
         Ok(())
     }
 
@@ -205,7 +226,7 @@ impl Network for MemoryTransport {
 
 impl<R> Transport<R> for MemoryTransport {
     fn connect(&mut self, _rt: &R, address: SocketAddr) -> Connected<MemoryConn> {
-        self.answer_connect(Request::Connect(address, None))
+        self.answer_connect(address, None)
     }
 
     fn connect_timeout(
@@ -214,16 +235,18 @@ impl<R> Transport<R> for MemoryTransport {
         address: SocketAddr,
         limit: Duration,
     ) -> Connected<MemoryConn> {
-        self.answer_connect(Request::Connect(address, Some(limit)))
+        self.answer_connect(address, Some(limit))
     }
 
     fn listen(&mut self, _rt: &R, address: SocketAddr) -> Listening<MemoryListener> {
-        self.asked.reserve(1)?;
+        self.requests.reserve(1)?;
+        self.addresses.reserve(1)?;
         let mut bound = address;
         bound.set_port(self.port);
         let outcome = RequestOutcome::Address(bound);
         let request = Request::Listen(address);
-        self.asked.push(Asked { request, outcome }).unwrap();
+        self.requests.push(Asked { request, outcome }).unwrap();
+        self.addresses.push(address).unwrap();
         Ok(Ok((MemoryListener, bound)))
     }
 
@@ -233,14 +256,14 @@ impl<R> Transport<R> for MemoryTransport {
         _listener: &mut MemoryListener,
         deadline: Duration,
     ) -> Accepted<MemoryConn> {
-        self.asked.reserve(1)?;
+        self.requests.reserve(1)?;
         let made = next_peer(&mut self.ready);
         let outcome = match &made {
             Ok((_, address)) => RequestOutcome::Address(*address),
             Err(fault) => RequestOutcome::Refused(*fault),
         };
         let request = Request::Accept(deadline);
-        self.asked.push(Asked { request, outcome }).unwrap();
+        self.requests.push(Asked { request, outcome }).unwrap();
         Ok(made)
     }
 

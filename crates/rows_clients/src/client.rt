@@ -104,7 +104,7 @@ fn asked(alloc: Global, session: &NamedSession, play: &Play) -> Result<Vec<Strin
     if play.opens_data() {
         return Ok(Vec::new(alloc));
     }
-    recorded(alloc, session.transport().asked())
+    recorded(alloc, session.transport().requests())
 }
 
 /// Makes these calls one after another, and adds their answers; what was written to the data connections that are over,

@@ -327,7 +327,7 @@ fn told<R: Wait + RandomSource + AllocGlobal>(
     let alloc = rt.alloc();
     let control = control(rt, client)?;
     Ok(RowState {
-        asked: recorded(alloc, control.transport().asked())?,
+        asked: recorded(alloc, control.transport().requests())?,
         uploaded: Vec::new(alloc),
         sent: Vec::from_slice(alloc, control.socket().sent())?,
         answers: texts_of(alloc, answers)?,

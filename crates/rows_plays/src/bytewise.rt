@@ -217,7 +217,7 @@ pub fn ran_bytewise(alloc: Global, calls: &[Call], play: &Play) -> Result<RowSta
     let conn = &session.get_ref().conn;
     let memory = &session.transport().memory;
     Ok(RowState {
-        asked: recorded(alloc, memory.asked())?,
+        asked: recorded(alloc, memory.requests())?,
         uploaded: uploaded(alloc, memory.uploaded())?,
         sent: Vec::from_slice(alloc, conn.sent())?,
         answers: texts_of(alloc, &answers)?,

@@ -120,7 +120,7 @@ pub fn stands(
 ) -> Result<RowState, RowError> {
     let conn = session.get_ref();
     Ok(RowState {
-        asked: recorded(alloc, session.transport().asked())?,
+        asked: recorded(alloc, session.transport().requests())?,
         uploaded: uploaded(alloc, session.transport().uploaded())?,
         sent: Vec::from_slice(alloc, conn.sent())?,
         answers: texts_of(alloc, answers)?,

@@ -257,7 +257,7 @@ fn accepted<E: Encoding>(
         Ending::Done => Ok(done(Answer::Unit, play_state)),
         Ending::GivesReply => Ok(done(Answer::Reply(reply), play_state)),
         Ending::TakesReply => {
-            let here = answered(reply.status, play_state);
+            let here = answered(&reply, play_state);
             Ok(done(Answer::Reply(reply), here))
         }
         Ending::Greets => match greeting_of(alloc, encoding, reply.body) {

@@ -12,8 +12,7 @@ use crate::asking::no_net_record;
 use crate::carrying::{Carried, moved_by, parted};
 use crate::turns::from_turn;
 use ftp_base::encoding::Encoding;
-use ftp_base::status::Status;
-use ftp_base::types::{ConnectionError, FtpError};
+use ftp_base::types::{ConnectionError, FtpError, Response};
 use ftp_calls::exchange::{Ending, Movement, Turn, finishes};
 use ftp_session::model::{NetOutcome, PlayState, Played, Wait};
 use ftp_session::session::{Answer, Call};
@@ -139,11 +138,11 @@ pub(crate) fn after_fault(ending: &Ending, fault: &FtpError, mut play_state: Pla
     }
 }
 
-/// A reply of this status is that of a command that was dropped, where one is due.
-pub(crate) fn answered(status: Status, mut play_state: PlayState) -> PlayState
-    ensures { result ≡ record play_state { state = answered_by status play_state.state } }
+/// This reply is that of a command that was dropped, where one is due.
+pub(crate) fn answered(reply: &Response, mut play_state: PlayState) -> PlayState
+    ensures { result ≡ record play_state { state = answered_by reply.now play_state.state } }
 {
-    play_state.state.answer(status);
+    play_state.state.answer(reply);
     play_state
 }
 

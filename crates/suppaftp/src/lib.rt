@@ -8,8 +8,10 @@
 
 mod host;
 pub mod polled_ftp;
+pub mod program;
 pub mod session;
 pub mod sync_ftp;
+pub mod transfer_stream;
 pub mod transport;
 
 pub use ftp_answers as answers;

@@ -50,7 +50,7 @@ fn session_with(alloc: Global, strangers: usize) -> FtpResult<MemorySession> {
 
 /// How often a peer was waited for, as long as was set.
 fn accepts(session: &Session<MemoryTransport>) -> usize {
-    let asked = session.transport().asked();
+    let asked = session.transport().requests();
     asked
         .iter()
         .filter(|one| matches!(&one.request, Request::Accept(limit) if limit.as_secs() == SECONDS))

@@ -67,7 +67,7 @@ fn letters(asked: &Asked) -> (char, u16, char) {
 /// What was asked of a transport, in order.
 fn asked(alloc: Global, network: &Network) -> Result<Vec<(char, u16, char)>, AllocError> {
     let mut all = Vec::new(alloc);
-    for one in network.get_ref().asked() {
+    for one in network.get_ref().requests() {
         all.push(letters(one))?;
     }
     Ok(all)

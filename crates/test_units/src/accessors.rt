@@ -96,15 +96,15 @@ fn a_clone_of_a_link_is_equal(rt: HostRuntime) -> Result<(), Fail> {
 const ERRORS: [(ParseError, &str); 4] = [
     (
         ParseError::SyntaxError,
-        "syntax error in the listing line: SyntaxError",
+        "Syntax error: invalid line: SyntaxError",
     ),
     (
         ParseError::InvalidDate,
-        "invalid date in the listing line: InvalidDate",
+        "Invalid date: InvalidDate",
     ),
     (
         ParseError::BadSize,
-        "invalid file size in the listing line: BadSize",
+        "Bad file size: BadSize",
     ),
     (ParseError::OutOfMemory, "out of memory: OutOfMemory"),
 ];

@@ -151,7 +151,9 @@ impl fmt::Display for ConnectionError {
             ConnectionError::UnexpectedEof => f.write_str(
                 "the connection was closed before the reply was whole",
             ),
-            ConnectionError::ReplyTooLarge => f.write_str("the reply is too large"),
+            ConnectionError::ReplyTooLarge => f.write_str(
+                "the server sent a reply larger than 262144 bytes",
+            ),
             ConnectionError::LineBreak => f.write_str("a line break in the command"),
             ConnectionError::EncodedWithoutCrlf => f.write_str(
                 "the encoded command doesn't end in CR LF",
@@ -174,10 +176,10 @@ impl StdError for ConnectionError {}
 pub struct ReplyTooLarge;
 
 impl fmt::Display for ReplyTooLarge {
-    ghost output = { λ _. Some (codes "the reply is too large") };
+    ghost output = { λ _. Some (codes "the server sent a reply larger than 262144 bytes") };
 
     fn fmt<W: fmt::Write>(&self, f: &mut fmt::Formatter<W>) -> fmt::Result {
-        f.write_str("the reply is too large")
+        f.write_str("the server sent a reply larger than 262144 bytes")
     }
 }
 

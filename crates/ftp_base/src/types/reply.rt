@@ -5,10 +5,11 @@
 //! where the bytes are UTF-8: a caller who knows another encoding has the bytes.
 
 ghost use Rattle.std.specs.Prelude.{◌≡◌, Some, None, IsSome, MatchOption, IsErrOf, IfOk, string_bytes};
-ghost use Rattle.ftp_base.specs.Reply.{body_error_text, strict_text, printed_reply};
+ghost use Rattle.ftp_base.specs.Reply.{after_feeds, begins_with_one, body_error_text, is_preliminary, strict_text, printed_reply};
 
 use super::Bytes;
 use crate::status::Status;
+use memchr::memrchr;
 use std::alloc::{AllocError, Global};
 use std::error::Error;
 use std::fmt;
@@ -50,6 +51,17 @@ impl Response {
         self.status
     }
 
+    /// Whether the server sends another reply after this one: the first digit of its code is 1, whatever the others are
+    /// (RFC 959, section 4.2.1).
+    pub fn is_preliminary(&self) -> bool
+        ensures { result ≡ is_preliminary self.now }
+    {
+        match self.body.as_slice().split_last() {
+            Some((_, front)) => begins_with_one(after_feeds(front)),
+            None => false,
+        }
+    }
+
     /// The body as text, white space cut at its end.
     ///
     /// # Errors
@@ -78,6 +90,26 @@ impl Response {
             Ok(text) => Some(text.trim_end()),
             Err(_) => None,
         }
+    }
+}
+
+/// What follows the last LF.
+fn after_feeds(bytes: &[u8]) -> &[u8]
+    ensures { result.now ≡ after_feeds bytes.now }
+{
+    match memrchr(b'\n', bytes) {
+        Some(place) => &bytes[place + 1..],
+        None => bytes,
+    }
+}
+
+/// Whether the first byte of a line is the digit 1.
+fn begins_with_one(line: &[u8]) -> bool
+    ensures { result ≡ begins_with_one line.now }
+{
+    match line.first() {
+        Some(digit) => *digit == b'1',
+        None => false,
     }
 }
 

@@ -523,16 +523,6 @@ abbrev pub Carries : Type 0 → Movement → SessionValue → SessionValue → A
 Carries tells movement old new answer =
     CarriesBy tells movement old new answer ⊎ ((moves_nothing movement ≡ true) × (answer ≡ nothing_moved movement) × (new ≡ old)) ⊎ ((needs_memory movement ≡ true) × (answer ≡ Fault OutOfMemory) × (new ≡ old))
 
--- an abort is dropped: the data connection of the transfer, which was left as it began, is closed and handed back; the
--- transfer was aborted where ABOR has gone out whole, and else its last reply is still owed
-abbrev pub after_abort : Bool → State → State
-after_abort out state = if out then with_aborted state else state
-
-pub record DropsAbort (tells : Type 0) (stage : Stage) (old new : SessionValue) : Type 0 where
-  pub closed : SessionValue
-  pub lets_go : LetsGo tells old closed
-  pub counts : new ≡ record closed { state = after_abort (is_out stage) closed.state }
-
 -- what a call does that is none of the control connection
 abbrev pub DoesRow : Row → Type 0 → SessionValue → SessionValue → Answer → Type 0
 DoesRow (Exchanges exchange) tells old new answer = ⊥

@@ -41,8 +41,13 @@ impl<Tr: Network, K: Drop, E: Encoding, B: Drop> Session<Tr, K, E, B>
 where
     Tr::Conn: Conn,
 {
-    /// Reads the server's greeting (220).
-    pub(super) fn greet(&mut self, alloc: Global) -> FtpResult<()>
+    /// Reads the server's greeting (220; RFC 959, section 5.4), of a session that [`new`](Session::new) made. From then on
+    /// `get_welcome_msg` returns its text.
+    ///
+    /// # Errors
+    /// Those of a read of one reply: a greeting of another status is `UnexpectedResponse`, and the session goes on.
+    pub fn greet(&mut self, alloc: Global) -> FtpResult<()>
+        ensures counts { CountsFaults Tr.Conn.tells self.old.machine self.new.machine (unit_answer result) }
         ensures encoding { self.new.encoding ≡ self.old.encoding }
         ensures builder { self.new.builder ≡ self.old.builder }
         ensures former { self.new.former ≡ self.old.former }

@@ -1,8 +1,8 @@
 //! Calls that are polled, as the polled client makes them.
 //!
-//! A call under way is a value. Its first poll looks at the mark of the transfer that was handed out: one that was left
-//! by then has its last reply read before the call sends or receives anything of its own, however many polls that
-//! takes. A call that waits may be polled again or dropped; a transfer that it holds is left then.
+//! A call under way is a value. Its first poll looks at the mark of the transfer that was handed out, and each later one
+//! before which it still waited for replies to commands that were dropped: a transfer that was left by then has its last
+//! reply read before the call sends or receives anything of its own, however many polls that takes. A call that waits may be polled again or dropped; a transfer that it holds is left then.
 
 ghost use Rattle.std.specs.Prelude.{◌≡◌, ◌⊎◌, Some, true, false};
 ghost use Rattle.futures.specs.declared.task.Poll.TheVariants as poll;
@@ -78,7 +78,7 @@ impl PolledCall {
     ghost use Rattle.ftp_calls.specs.declared.exchange.Turn.TheVariants.{First};
     ghost use Rattle.ftp_dialogue.specs.declared.stage.Stage.TheVariants.{At};
 
-    /// A call that begins. Its first poll looks whether the transfer that was handed out was left. A call that is none of
+    /// A call that begins. It looks whether the transfer that was handed out was left before it sends anything. A call that is none of
     /// the control connection is never polled: it has its answer from the start.
     pub fn new(call: Call) -> PolledCall
         ensures { result ≡ record { call = call; looks = true; over = is_local call; stage = At First } }
@@ -153,8 +153,9 @@ impl<
 where
     Tr::Conn: PollConn<W>,
 {
-    /// Polls a call. The first poll looks at the mark; replies that are due to commands that were dropped are polled before
-    /// the call, and the last reply of a transfer that was left. A call that waits may be polled again, or dropped by `drop_call`; between its polls no other call may be made.
+    /// Polls a call. The first poll looks at the mark, and so does each after one that waited for replies that are due to
+    /// commands that were dropped. Those are polled before the call, and so is the last reply of a transfer that was left. A
+    /// call that waits may be polled again, or dropped by `drop_call`; between its polls no other call may be made.
     ///
     /// Returns the answer of the call; `AlreadyCompleted` from a call that has its answer, and nothing happens.
     fn poll_call(
@@ -179,7 +180,7 @@ where
             )));
         }
         look_first(&mut self.machine, &mut self.mark, polled.looks);
-        polled.looks = false;
+        let mut behind = false;
         match poll_in_step(
             &mut self.machine,
             alloc,
@@ -188,14 +189,19 @@ where
             &self.encoding,
             &polled.call,
             &mut polled.stage,
+            &mut behind,
             w,
         ) {
             Poll::Ready(answer) => {
+                polled.looks = false;
                 drop(mem::replace(&mut polled.stage, Stage::At(Turn::First)));
                 polled.over = true;
                 Poll::Ready(answer)
             }
-            Poll::Pending => Poll::Pending,
+            Poll::Pending => {
+                polled.looks = polled.looks && behind;
+                Poll::Pending
+            }
         }
     }
 }
@@ -253,7 +259,7 @@ impl<Tr: Network, K: Drop, E: Encoding, B: Drop> DropsCalls for Session<Tr, K, E
     }
 }
 
-/// Looks once at the mark, at the first poll of a call that looks.
+/// Looks once at the mark, where the call looks.
 fn look_first<Tr: Network>(machine: &mut Machine<Tr>, mark: &mut Option<SessionEnd>, looks: bool)
     ensures { LooksFirst looks mark.old mark.new machine.old machine.new }
 {
@@ -262,7 +268,8 @@ fn look_first<Tr: Network>(machine: &mut Machine<Tr>, mark: &mut Option<SessionE
     }
 }
 
-/// Polls a call, after the replies that are due to commands that were dropped, where it reads them first.
+/// Polls a call, after the replies that are due to commands that were dropped, where it reads them first; notes whether it
+/// still waits for those.
 fn poll_in_step<Tr: Network, R, W, E: Encoding, B: PassiveStreamBuilder<Tr::Conn>>(
     machine: &mut Machine<Tr>,
     alloc: Global,
@@ -271,6 +278,7 @@ fn poll_in_step<Tr: Network, R, W, E: Encoding, B: PassiveStreamBuilder<Tr::Conn
     encoding: &E,
     call: &Call,
     stage: &mut Stage,
+    behind: &mut bool,
     w: &mut W,
 ) -> Poll<Answer>
 where
@@ -280,11 +288,15 @@ where
     requires channel { is_local call.now ≡ false }
     ensures stage { result ≡ poll.Pending → StageIn (Some call.now) stage.new }
     ensures polls { PollsInStep (asking (built_by B.answers builder.now) (Tr.PollTransport.may_wait ⊎ Tr.Conn.PollConn.may_wait) (polling Tr.Conn.PollConn)) Tr.Conn.PollConn.may_wait (coding_of E.decoded E.encoded encoding.now) call.now stage.old
-        stage.new machine.old machine.new result }
+        stage.new behind.new machine.old machine.new result }
 {
+    *behind = false;
     if machine.is_behind(call) {
         match machine.poll_catch_up(alloc, call, w) {
-            Poll::Pending => return Poll::Pending,
+            Poll::Pending => {
+                *behind = true;
+                return Poll::Pending;
+            }
             Poll::Ready(Some(fault)) => return Poll::Ready(Answer::Fault(fault)),
             Poll::Ready(None) => {
                 if drains(call) {

@@ -11,8 +11,8 @@ use Rattle.ftp_dialogue.proofs.machine.Machine.poll_due.Given as goal
 abbrev pub invariant-due : goal.invariant-due
 invariant-due g l =
     (new : SessionValue) (result : Poll (Option FtpError))
-    → ReadsDue l.left (link g.Tr.Conn.Tells.secures g.Tr.Conn.Tells.tells g.Tr.Conn.PollConn.read_faults g.Tr.Conn.PollConn.write_faults g.Tr.Conn.Tells.end_faults) l.self new result
-    → ReadsDue most_commands (link g.Tr.Conn.Tells.secures g.Tr.Conn.Tells.tells g.Tr.Conn.PollConn.read_faults g.Tr.Conn.PollConn.write_faults g.Tr.Conn.Tells.end_faults) l.fn.self new result
+    → ReadsDue l.plain l.left (link g.Tr.Conn.Tells.secures g.Tr.Conn.Tells.tells g.Tr.Conn.PollConn.read_faults g.Tr.Conn.PollConn.write_faults g.Tr.Conn.Tells.end_faults) l.self new result
+    → ReadsDue l.plain most_commands (link g.Tr.Conn.Tells.secures g.Tr.Conn.Tells.tells g.Tr.Conn.PollConn.read_faults g.Tr.Conn.PollConn.write_faults g.Tr.Conn.Tells.end_faults) l.fn.self new result
 
 abbrev pub decreases-due : goal.decreases-due
 decreases-due g l = l.left

@@ -8,12 +8,12 @@ use Rattle.ftp_session.proofs.session.polling.SessionPollsCalls.poll_call.Goals 
 pub returns-in-Ready-clause-polls : goal.returns-in-Ready-clause-polls
 returns-in-Ready-clause-polls g c =
     let polls = rw c.in-Ready.is at c.poll_in_step.ensures.polls in
-    rw (← c.polled.view_is) (polls_seen _ _ _ _ _ _ _ _ c.look_first.new.machine _ c.poll_in_step.new.stage (Ready c.in-Ready.answer) c.if-polled.false c.look_first.ensures polls (search rules))
+    rw (← c.polled.view_is) (polls_seen _ _ _ _ _ _ _ _ c.look_first.new.machine _ c.poll_in_step.new.stage c.poll_in_step.new.behind (Ready c.in-Ready.answer) c.if-polled.false c.look_first.ensures polls (search rules))
 
 pub returns-in-Pending-clause-polls : goal.returns-in-Pending-clause-polls
 returns-in-Pending-clause-polls g c =
     let polls = rw c.in-Pending.is at c.poll_in_step.ensures.polls in
-    rw (← c.polled.view_is) (polls_seen _ _ _ _ _ _ _ _ c.look_first.new.machine _ c.poll_in_step.new.stage Pending c.if-polled.false c.look_first.ensures polls (search rules))
+    rw (← c.polled.view_is) (polls_seen _ _ _ _ _ _ _ _ c.look_first.new.machine _ c.poll_in_step.new.stage c.poll_in_step.new.behind Pending c.if-polled.false c.look_first.ensures polls (search rules))
 
 pub returns-in-Ready-clause-counts : goal.returns-in-Ready-clause-counts
 returns-in-Ready-clause-counts g c = λ plain. polls_counted _ _ _ _ _ _ _ _ _ (Ready c.in-Ready.answer) (search rules) (returns-in-Ready-clause-polls g c) plain

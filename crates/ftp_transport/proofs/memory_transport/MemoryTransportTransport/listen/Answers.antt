@@ -1,0 +1,6 @@
+use Rattle.std.proofs.Common.{rules}
+use Rattle.ftp_transport.proofs.Asking.{asked_more}
+use Rattle.ftp_transport.proofs.memory_transport.MemoryTransportTransport.listen.Goals as goal
+
+pub invariant_of-self-2 : goal.invariant_of-self-2
+invariant_of-self-2 g c = search (rules, asked_more)
