@@ -29,7 +29,7 @@ use Rattle.ftp_transport.specs.declared.room.Room.{Room}
 use Rattle.ftp_dialogue.specs.declared.model.Played.TheVariants.{Done}
 use Rattle.ftp_dialogue.specs.declared.model.PlayState.{PlayState}
 use Rattle.ftp_dialogue.proofs.NetEvents.{net_record_parted, letting_beside}
-use Rattle.ftp_dialogue.specs.NetEvents.{answers, NetEvent, NetEvents, MovedIs, MovementIs, Net, Parted, outcomes_of, traffic_of}
+use Rattle.ftp_dialogue.specs.NetEvents.{NetEvent, NetEvents, MovementIs, Net, Parted, outcomes_of, traffic_of}
 use Rattle.ftp_dialogue.specs.Dialogue.{Tree, Move, Leaf, accepted, awaiting, carrying, concluded, dialogue, doing, entered, expected_of, from_turn, later, moved_answer, negotiating, opened_from, saying, set_to, told_of_close, with_left, closing_data}
 use Rattle.ftp_dialogue.specs.Link.{Link}
 use Rattle.ftp_dialogue.specs.Play.{Refusal, Taken, Lacking, Failing, finally, leaving, play, play_call, play_unless, lacks, refusal, refused_if_failed, needs_data}
@@ -38,7 +38,6 @@ use Rattle.ftp_dialogue.specs.Resuming.{Modes, Resumes}
 use Rattle.ftp_dialogue.specs.Sound.{Transfers, left_behind}
 use Rattle.ftp_dialogue.specs.State.{SessionValue, LetsGo}
 use Rattle.std.specs.declared.io.ErrorKind.{ErrorKind}
-use Rattle.ftp_dialogue.specs.declared.model.NetOutcome.TheVariants as came
 use Rattle.ftp_dialogue.specs.Steps.Moving.{Apart, CarriedOut, Carries, CarriesBy, CarriesOut, DoesRow, Ends, Made, Sets as SetsTo, Walks, answer_moved, moves_nothing, needs_memory, nothing_moved, state_moved}
 use Rattle.ftp_dialogue.specs.Steps.Polls.{MayPollAt}
 use Rattle.ftp_dialogue.specs.Steps.Stages.{MayAnswer, StageOf}

@@ -6,6 +6,7 @@ use Rattle.futures.specs.declared.task.Poll.TheVariants.{Ready, Pending}
 use Rattle.ftp_base.specs.declared.types.reply.Response.{Response}
 use Rattle.ftp_base.specs.declared.types.fault.FtpError.{FtpError}
 use Rattle.ftp_base.specs.declared.types.fault.FtpError.TheVariants.{BadResponse, OutOfMemory, SessionFailed}
+use Rattle.ftp_base.specs.declared.types.fault.FtpError.TheVariants as faults
 use Rattle.ftp_calls.specs.declared.call.Answer.{Answer}
 use Rattle.ftp_calls.specs.declared.call.Answer.TheVariants.{Unit as Nothing, Fault}
 use Rattle.ftp_control.specs.Channel.{Channel}
@@ -18,13 +19,13 @@ use Rattle.ftp_calls.specs.declared.call.Call.{Call}
 use Rattle.ftp_dialogue.specs.CatchingUp.{After, CatchesUp, Flushes, InStepIf, MakesThen, CatchesUpReadIf, PollsReadInStep, ReadsDue, ReadsIf, PlaysInStep, TellsFault, ReadsThen, fault_told, flushing, is_behind, is_caught_up, is_late, is_plain_read, opens_beside, told_by, told_of_line}
 use Rattle.ftp_dialogue.specs.Coding.{Coding}
 use Rattle.ftp_dialogue.specs.NetEvents.{Net}
-use Rattle.ftp_dialogue.specs.Dialogue.{Expected, Say, Leaf, expecting}
+use Rattle.ftp_dialogue.specs.Dialogue.{Expected, Tree, Say, Leaf, expecting}
 use Rattle.ftp_calls.specs.declared.call.Call.TheVariants.{Drain}
 use Rattle.ftp_dialogue.specs.Play.{Refusal, Taken, Lacking, Failing, refused_if_failed}
 use Rattle.ftp_dialogue.specs.Sound.{none_left}
 use Rattle.ftp_dialogue.specs.Link.{Link, unasked}
 use Rattle.ftp_dialogue.specs.Promises.{Aborts, Completes, Leads, Plays, refusal_of}
-use Rattle.ftp_dialogue.specs.Reading.{PollsRead, ReadsAlone}
+use Rattle.ftp_dialogue.specs.Reading.{PollsRead, ReadsAlone, ReadsCounted, ReadsUnless}
 use Rattle.ftp_dialogue.specs.State.{SessionValue}
 use Rattle.ftp_dialogue.specs.declared.state.State.{State}
 use Rattle.ftp_dialogue.specs.Steps.Moving.{Advances, Ends, MadeDrained, Steps, after_line, step_of, withheld}
@@ -114,6 +115,55 @@ module _ (plain : Bool) (link : Link) where
         let H : Poll (Result Response FtpError) → Type 0 = λ h. After (Rest less) (told_by h) b c result in
         let T : Option FtpError → Type 0 = λ f. After (Rest less) (Ready f) b c result in
         reads_one left less a b c heard result some is some_due reads (subst H (sym given) (subst T told then))
+
+-- the session fails only where an error is told
+
+any_tree : State → Result Response FtpError → Tree
+any_tree state heard = Leaf Nothing state
+
+pub alone_fails : (link : Link) (old new : SessionValue) (heard : Poll (Result Response FtpError)) → ReadsAlone link (expecting []) old new heard → new.channel.failed ≡ true → (old.channel.failed ≡ true) ⊎ TellsFault (told_by heard)
+alone_fails link old new heard reads failed = go old.channel.failed refl reads
+  where
+    counted : (h : Poll (Result Response FtpError)) → ReadsCounted link (expecting []) old new h → (old.channel.failed ≡ true) ⊎ TellsFault (told_by h)
+    counted (Ready (Ok reply)) c = inl (sym (ap (λ v. v.channel.failed) c.counts ∙ c.goes_on tt) ∙ failed)
+    counted (Ready (Err (faults.UnexpectedResponse reply))) c = inl (sym (ap (λ v. v.channel.failed) c.counts ∙ c.goes_on tt) ∙ failed)
+    counted (Ready (Err (faults.ConnectionError why))) c = inr tt
+    counted (Ready (Err (faults.SecureError text))) c = inr tt
+    counted (Ready (Err faults.BadResponse)) c = inr tt
+    counted (Ready (Err faults.InvalidAddress)) c = inr tt
+    counted (Ready (Err faults.DataConnectionAlreadyOpen)) c = inr tt
+    counted (Ready (Err faults.OutOfMemory)) c = inr tt
+    counted (Ready (Err faults.SessionFailed)) c = inr tt
+    counted Pending c = inl (sym (ap (λ v. v.channel.failed) c.counts ∙ (c.reads (any_tree old.state)).1.failed) ∙ failed)
+
+    go : (b : Bool) → old.channel.failed ≡ b → ReadsUnless b link (expecting []) old new heard → (old.channel.failed ≡ true) ⊎ TellsFault (told_by heard)
+    go true was refuses = inl was
+    go false going c = counted heard c
+
+-- what came after a part told of it, or the session had failed before
+after_fails : (Next : SessionValue → SessionValue → Poll (Option FtpError) → Type 0) (told : Poll (Option FtpError)) (old middle new : SessionValue) (result : Poll (Option FtpError)) → (Next middle new result → new.channel.failed ≡ true → (middle.channel.failed ≡ true) ⊎ TellsFault result) → (middle.channel.failed ≡ true → (old.channel.failed ≡ true) ⊎ TellsFault told) → After Next told middle new result → new.channel.failed ≡ true → (old.channel.failed ≡ true) ⊎ TellsFault result
+after_fails Next (Ready None) old middle new result next first after failed = go (next after failed)
+  where
+    none : (old.channel.failed ≡ true) ⊎ TellsFault (Ready None) → (old.channel.failed ≡ true) ⊎ TellsFault result
+    none (inl was) = inl was
+    none (inr told) = absurd told
+
+    go : (middle.channel.failed ≡ true) ⊎ TellsFault result → (old.channel.failed ≡ true) ⊎ TellsFault result
+    go (inl was) = none (first was)
+    go (inr told) = inr told
+after_fails Next (Ready (Some fault)) old middle new result next first after failed = inr (subst TellsFault (sym after.0) tt)
+after_fails Next Pending old middle new result next first after failed =
+    let T : Poll (Option FtpError) → Type 0 = λ r. (old.channel.failed ≡ true) ⊎ TellsFault r in
+    subst T (sym after.0) (first (sym (ap (λ v. v.channel.failed) after.1) ∙ failed))
+
+pub due_fails : (plain : Bool) (link : Link) (left : ℕ) (old new : SessionValue) (result : Poll (Option FtpError)) → ReadsDue plain left link old new result → new.channel.failed ≡ true → (old.channel.failed ≡ true) ⊎ TellsFault result
+unfolding ReadsDue
+due_fails plain link zero old new result ends failed = inr (subst TellsFault (sym ends.0) tt)
+due_fails plain link (suc left) old new result reads failed = go (λ v w r. due_fails plain link left v w r) (is_caught_up plain old.state) reads
+  where
+    go : ((v w : SessionValue) (r : Poll (Option FtpError)) → ReadsDue plain left link v w r → w.channel.failed ≡ true → (v.channel.failed ≡ true) ⊎ TellsFault r) → (b : Bool) → ReadsIf b link (λ v w r. ReadsDue plain left link v w r) old new result → (old.channel.failed ≡ true) ⊎ TellsFault result
+    go others true none = inl (sym (ap (λ v. v.channel.failed) none.1) ∙ failed)
+    go others false one = after_fails (λ v w r. ReadsDue plain left link v w r) (told_by one.heard) old one.middle new result (others one.middle new result) (alone_fails link old one.middle one.heard one.reads) one.then_reads failed
 
 -- where no more are counted
 pub reads_no_more : (plain : Bool) (link : Link) (left : ℕ) (v : SessionValue) → left ≤ 0 → ReadsDue plain left link v v (Ready (Some BadResponse))

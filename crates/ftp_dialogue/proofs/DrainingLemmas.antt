@@ -8,9 +8,8 @@ use Rattle.ftp_calls.specs.declared.exchange.Ending.{Ending}
 use Rattle.ftp_calls.specs.declared.exchange.Ending.TheVariants.{Done, GivesReply, TakesReply, Greets, GivesPath, GivesSecondLine, GivesTime, GivesSize, GivesFeatures, SetsText, GoesOn, Continues, GivesAddress, GivesPort, Opens, Performs, Finishes, Drains, Stops}
 use Rattle.ftp_calls.specs.declared.exchange.Row.{Row}
 use Rattle.ftp_calls.specs.declared.exchange.Row.TheVariants.{Exchanges, Arms, Resyncs, Sets, Moves}
-use Rattle.ftp_calls.specs.declared.exchange.Turn.{Turn}
-use Rattle.ftp_calls.specs.declared.exchange.Turn.TheVariants.{First, Second, Passive, ExtendedPassive, Active, Restart, Closed, Aborted}
-use Rattle.ftp_calls.specs.Exchanges.{drained_row, drains_first, finishes, finishing_row, follows_reply, is_finishing, is_local, local_row, negotiates, given_by, row_of, Kind, Nothing, Replies, Texts, Times, Sizes, Lists, Connections, Movements, Listings}
+use Rattle.ftp_calls.specs.declared.exchange.Turn.TheVariants.{First}
+use Rattle.ftp_calls.specs.Exchanges.{drained_row, drains_first, finishes, finishing_row, follows_reply, is_finishing, is_local, local_row, negotiates, row_of}
 use Rattle.ftp_dialogue.specs.Coding.{Coding}
 use Rattle.ftp_dialogue.specs.NetEvents.{NetEvent}
 use Rattle.ftp_dialogue.specs.Dialogue.{dialogue, entered, opened_from, with_left}
@@ -23,7 +22,6 @@ use Rattle.ftp_dialogue.specs.declared.stage.Stage.{Stage}
 use Rattle.ftp_dialogue.specs.declared.state.Owed.{Owed}
 use Rattle.ftp_dialogue.specs.Steps.Moving.{Ends, Made, MadeDrained}
 use Rattle.ftp_dialogue.specs.Steps.Polls.{entered_state, is_first}
-use Rattle.ftp_dialogue.specs.Steps.Stages.{AnswersKind, MayAnswer, TurnOf}
 use Rattle.ftp_dialogue.proofs.CarryingLemmas.{refused_so}
 use Rattle.ftp_dialogue.proofs.Wired.{wired}
 use Rattle.ftp_dialogue.proofs.NetEvents.{letting_beside}

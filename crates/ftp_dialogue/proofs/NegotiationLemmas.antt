@@ -29,7 +29,6 @@ use Rattle.ftp_dialogue.specs.declared.nodes.Accepted.TheVariants as accepts
 use Rattle.ftp_dialogue.specs.declared.stage.Awaits.{Awaits}
 use Rattle.ftp_dialogue.specs.declared.stage.Stage.{Stage}
 use Rattle.ftp_dialogue.specs.declared.stage.Stage.TheVariants.{At, OpeningData, Transferring}
-use Rattle.ftp_calls.specs.declared.exchange.Task.{Task}
 use Rattle.ftp_dialogue.specs.declared.stage.Transferring.TheVariants.{Starting}
 use Rattle.ftp_dialogue.specs.declared.stage.Opened.{Opened as Opening}
 use Rattle.ftp_dialogue.specs.declared.stage.Opened.TheVariants.{Gives as GivesAnswer, Performs as PerformsAll}
@@ -58,7 +57,7 @@ use Rattle.ftp_dialogue.proofs.Places.{here}
 use Rattle.ftp_dialogue.specs.Promises.{play_state, Goes, Aborts, Untouched, failed_from, state_at}
 use Rattle.ftp_dialogue.specs.State.{SessionValue}
 use Rattle.ftp_dialogue.specs.Steps.Moving.{AsksFirst, LetsIn, LetsInIf, Stands, StandsUnless, dropped, Accepts, Concludes, ConnectsTo, Ends, LooksUp, Meets, MeetsIf, Moves, NothingTouched, Speaks, Still, TurnsAway, Walks}
-use Rattle.ftp_dialogue.specs.Steps.Stages.{GoesOnTo, MayPerform, OpeningOf, many, opened_by, StageOf, StepAnswers, TurnOf, is_later, begun_at, first_by, has_asked, nodes_from, nodes_left, nodes_of, remaining, way_of}
+use Rattle.ftp_dialogue.specs.Steps.Stages.{GoesOnTo, OpeningOf, many, opened_by, StageOf, StepAnswers, TurnOf, is_later, begun_at, first_by, has_asked, nodes_from, nodes_left, nodes_of, remaining, way_of}
 use Rattle.ftp_dialogue.proofs.Moving.{advances_on, leads_on, moves_on, leaf_ends, lacks_memory_at, nothing_leads, nothing_shrinks, stays_put}
 
 pub play-Ask : (room : Room) (request : Request) (next : RequestOutcome → Tree) (outcome : RequestOutcome) (outcomes : List NetOutcome) (s : PlayState) → play room (Ask request next) (record s { outcomes = Answered outcome ∷ outcomes }) ≡ play room (next outcome) (record s { net_record = after_request request outcome s.net_record; outcomes = outcomes })

@@ -1,25 +1,22 @@
 -- Which exchanges lead to a data connection.
-use Rattle.std.proofs.Common.{◌≡◌, ◌<◌, ◌-◌, ◌+◌, Bool, true, false, not, ◌&&◌, ◌||◌, is_none, Option, Some, None, inl, inr, ◌⊎◌, refl, ap, sym, ◌∙◌, subst, arith}
+use Rattle.std.proofs.Common.{◌≡◌, ◌<◌, ◌-◌, ◌+◌, Bool, true, false, not, ◌&&◌, ◌||◌, is_none, Option, Some, None, inl, refl, ap, sym, ◌∙◌, subst, arith}
 use Rattle.ftp_calls.proofs.Openings.{opens_alike, row_is_own}
 use Rattle.ftp_calls.specs.declared.call.Answer.{Answer}
 use Rattle.ftp_calls.specs.declared.call.Call.{Call}
 use Rattle.ftp_calls.specs.declared.exchange.Ending.{Ending}
 use Rattle.ftp_calls.specs.declared.exchange.Ending.TheVariants.{Done, GivesReply, TakesReply, Greets, GivesPath, GivesSecondLine, GivesTime, GivesSize, GivesFeatures, SetsText, GoesOn, Continues, GivesAddress, GivesPort, Opens, Performs, Finishes, Drains, Stops}
-use Rattle.ftp_dialogue.proofs.Sorts.{finishing_moves, aborts_finish}
 use Rattle.ftp_calls.specs.declared.exchange.Task.{Task}
 use Rattle.ftp_calls.specs.declared.exchange.Row.{Row}
 use Rattle.ftp_calls.specs.declared.exchange.Row.TheVariants.{Exchanges, Arms, Resyncs, Sets, Moves}
 use Rattle.ftp_calls.specs.declared.exchange.Turn.{Turn}
 use Rattle.ftp_calls.specs.declared.exchange.Turn.TheVariants.{First, Second, Passive, ExtendedPassive, Active, Restart, Closed, Aborted}
 use Rattle.ftp_calls.specs.Exchanges.{Kind, ending_of, given_by, is_draining, is_negotiating, is_opening, is_own, kind_of, kind_of_task, negotiates, opens, own_row, row_of}
-use Rattle.ftp_calls.specs.Kinds.{Gives}
 use Rattle.ftp_dialogue.specs.declared.stage.Asking.{Asking}
 use Rattle.ftp_dialogue.specs.declared.stage.Asking.TheVariants.{PeerPort, Connection, Peer, Accepting, Securing}
 use Rattle.ftp_dialogue.specs.declared.stage.Opened.TheVariants.{Gives as GivesAnswer, Performs as PerformsAll}
 use Rattle.ftp_dialogue.specs.Dialogue.{most_reads, strangers}
-use Rattle.ftp_dialogue.specs.Promises.{IsFault}
 use Rattle.ftp_dialogue.specs.Steps.Moving.{AskingAnswers, agrees}
-use Rattle.ftp_dialogue.specs.Steps.Stages.{AnswersKind, AskingOf, MayAnswer, MayPerform, TurnOf, nodes_asked, nodes_from}
+use Rattle.ftp_dialogue.specs.Steps.Stages.{AnswersKind, AskingOf, MayPerform, TurnOf, nodes_asked, nodes_from}
 
 abbrev pub row_agrees : Option Ending → Bool
 row_agrees None = false

@@ -40,10 +40,10 @@ use Rattle.ftp_calls.proofs.Openings.{read_opens_none}
 use Rattle.ftp_dialogue.proofs.Stages.{later_is_no_read, resync_unread}
 use Rattle.ftp_dialogue.specs.Dialogue.{Expected, expected_of, most_passed_over, seeking, Tree, Say, Hear, Leaf, Move, carrying, moved_answer, saying, after_fault_of, answer_to_fault, armed, awaiting, concluded, doing, accepted, later, from_turn, opened_from, wants_memory, with_left, dialogue}
 use Rattle.ftp_dialogue.proofs.DrainingLemmas.{failed_undue, makes_undue}
-use Rattle.ftp_dialogue.specs.Promises.{DrainsIf, PlaysAlone, due_of, AbortsRead, FailsRead, IsFault, HasFault, Aborts, Fails, SaidOrTaken, Touched, Untouched, LacksMemory, Plays, GivesFault, Reads, Rests, begun_by, failed_from, lacking_at, refusal_of, state_at}
+use Rattle.ftp_dialogue.specs.Promises.{DrainsIf, PlaysAlone, due_of, AbortsRead, FailsRead, IsFault, Aborts, Fails, SaidOrTaken, Touched, Untouched, LacksMemory, Plays, GivesFault, Reads, Rests, begun_by, failed_from, lacking_at, refusal_of, state_at}
 use Rattle.ftp_control.specs.Channel.{untaken}
 use Rattle.ftp_dialogue.specs.Resuming.{Resumes, modes_of}
-use Rattle.ftp_dialogue.specs.Steps.Polls.{StageIn, entered_at, entered_state, entered_tree, is_first, is_first_turn}
+use Rattle.ftp_dialogue.specs.Steps.Polls.{entered_at, entered_state, entered_tree, is_first}
 use Rattle.ftp_dialogue.specs.Steps.Stages.{NotBegun, is_later, remaining, awaited, begun_at, StageOf, line_of}
 use Rattle.ftp_dialogue.specs.Steps.Moving.{Moves, Advances, Ends, Steps, PollSteps, Hears, BeginsExchange, Concludes, Made, NothingTouched, NothingYet, Quiet, Still, HasBegun, HeardFault, BeginsHere, EndsFaulty, FaultLeaves, FaultLeavesIf, Speaks, Takes, Tracks, takes_memory, withheld, after_fault}
 use Rattle.ftp_dialogue.proofs.Moving.{advances_on, leads_on, leaf_ends, refused_line, lacks_memory_first, lacks_memory_at, stays_put, ends_on, aborts_on, said_or_taken_on, untouched, untouched_after}

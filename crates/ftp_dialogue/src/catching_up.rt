@@ -68,6 +68,8 @@ impl<Tr: Network> Machine<Tr> {
         Tr::Conn: PollConn<W>,
         requires going { self.old.channel.failed ≡ false }
         ensures waits { result ≡ poll.Pending → Tr.Conn.may_wait }
+        ensures fails { self.new.channel.failed ≡ true →
+            (self.old.channel.failed ≡ true) ⊎ TellsFault result }
         ensures catches_up { CatchesUp (polling Tr.Conn.PollConn) plain self.old self.new result }
     {
         match self.poll_flush(w) {
@@ -195,6 +197,8 @@ impl<Tr: Network> Machine<Tr> {
     where
         Tr::Conn: PollConn<W>,
         ensures waits { result ≡ poll.Pending → Tr.Conn.may_wait }
+        ensures fails { self.new.channel.failed ≡ true →
+            (self.old.channel.failed ≡ true) ⊎ TellsFault result }
         ensures reads { ReadsDue plain most_commands (polling Tr.Conn.PollConn) self.old self.new result }
     {
         let mut left = u64::MAX;

@@ -23,6 +23,7 @@ use Rattle.ftp_dialogue.specs.declared.model.Played.TheVariants as played
 use Rattle.ftp_dialogue.specs.declared.model.PlayState.{PlayState}
 use Rattle.ftp_dialogue.specs.declared.state.State.{State}
 use Rattle.ftp_dialogue.proofs.NetEvents.{net_events-append}
+use Rattle.ftp_dialogue.proofs.CatchingUpLemmas.{alone_fails}
 use Rattle.ftp_runs.specs.Counting.{NoFewer}
 use Rattle.ftp_runs.specs.Following.{Grows}
 use Rattle.ftp_runs.proofs.NoFewer.{aborts_no_fewer, as_many, no_fewer_on, reads_no_fewer}
@@ -132,21 +133,9 @@ read_grows Pending old last waits = (waits.0.answered, waits.0.goes.net_events t
 read_went : (heard : Poll (Result Response FtpError)) (old new : SessionValue) → ReadsAlone mem (expecting []) old new heard → Went old new (told_by heard)
 read_went heard old new reads = go old.channel.failed refl reads
   where
-    counted_fails : (h : Poll (Result Response FtpError)) → ReadsCounted mem (expecting []) old new h → new.channel.failed ≡ true → (old.channel.failed ≡ true) ⊎ TellsFault (told_by h)
-    counted_fails (Ready (Ok reply)) counted failed = inl (sym (ap (λ v. v.channel.failed) counted.counts ∙ counted.goes_on tt) ∙ failed)
-    counted_fails (Ready (Err (faults.UnexpectedResponse reply))) counted failed = inl (sym (ap (λ v. v.channel.failed) counted.counts ∙ counted.goes_on tt) ∙ failed)
-    counted_fails (Ready (Err (faults.ConnectionError why))) counted failed = inr tt
-    counted_fails (Ready (Err (faults.SecureError text))) counted failed = inr tt
-    counted_fails (Ready (Err faults.BadResponse)) counted failed = inr tt
-    counted_fails (Ready (Err faults.InvalidAddress)) counted failed = inr tt
-    counted_fails (Ready (Err faults.DataConnectionAlreadyOpen)) counted failed = inr tt
-    counted_fails (Ready (Err faults.OutOfMemory)) counted failed = inr tt
-    counted_fails (Ready (Err faults.SessionFailed)) counted failed = inr tt
-    counted_fails Pending counted failed = inl (sym (ap (λ v. v.channel.failed) counted.counts ∙ (counted.reads (any_tree old.state)).1.failed) ∙ failed)
-
     go : (b : Bool) → old.channel.failed ≡ b → ReadsUnless b mem (expecting []) old new heard → Went old new (told_by heard)
     go true failed refuses = record { grows = ([], ap (λ v. v.net) refuses.1); fails = λ fails. inl failed; no_fewer = as_many old.channel.told new.channel.told (ap (λ v. v.channel.told.failures) refuses.1) }
-    go false going counted = record { grows = grows_to old counted.last new (ap (λ v. v.net) counted.counts) (read_grows heard old counted.last (counted.reads (any_tree old.state))); fails = counted_fails heard counted; no_fewer = no_fewer_on old.channel.told counted.last.channel.told new.channel.told (reads_no_fewer mem (expecting []) (any_tree old.state) old counted.last heard tt (counted.reads (any_tree old.state))) (as_many counted.last.channel.told new.channel.told (ap (λ v. v.channel.told.failures) counted.counts)) }
+    go false going counted = record { grows = grows_to old counted.last new (ap (λ v. v.net) counted.counts) (read_grows heard old counted.last (counted.reads (any_tree old.state))); fails = alone_fails mem old new heard reads; no_fewer = no_fewer_on old.channel.told counted.last.channel.told new.channel.told (reads_no_fewer mem (expecting []) (any_tree old.state) old counted.last heard tt (counted.reads (any_tree old.state))) (as_many counted.last.channel.told new.channel.told (ap (λ v. v.channel.told.failures) counted.counts)) }
 
 -- as long as some are due
 

@@ -55,10 +55,10 @@ use Rattle.ftp_calls.specs.declared.exchange.Row.{Row}
 use Rattle.ftp_calls.specs.declared.exchange.Row.TheVariants.{Exchanges, Arms}
 use Rattle.ftp_calls.specs.declared.exchange.Row.TheVariants as row
 use Rattle.ftp_calls.specs.Exchanges.{is_draining, is_local, is_read, row_of, Kind, Nothing, kind_of, kind_of_task}
-use Rattle.ftp_dialogue.specs.Dialogue.{Expected, End, Tree, Say, Hear, Look, Ask, Build, Secure, Move, Leaf, accepted, chunk, fetched, first_fault, later, lets_in, most_bytes, moved_answer, performing, too_long, unfetched, wants_memory, with_abandoned, with_fetched, set_to, answer_to_fault, after_fault_of, with_aborted, with_left, with_transfer, dialogue}
+use Rattle.ftp_dialogue.specs.Dialogue.{Expected, End, Tree, Say, Hear, Look, Ask, Build, Secure, Move, Leaf, accepted, chunk, fetched, first_fault, later, lets_in, most_bytes, moved_answer, performing, too_long, unfetched, wants_memory, with_abandoned, with_fetched, set_to, answer_to_fault, after_fault_of, with_left, with_transfer, dialogue}
 use Rattle.ftp_dialogue.specs.Resuming.{Modes, Resumes, Silent, modes_of}
 use Rattle.ftp_dialogue.specs.Promises.{DrainsIf, due_of, AbortsRead, IsFault, Leads, Completes, Aborts, However, SaidOrTaken, Untouched, Rests, IsRefused, begun_by, failed_from, refusal_of, IsApart}
-use Rattle.ftp_dialogue.specs.Steps.Stages.{AnswersKind, Begun, GoesOnTo, NotBegun, StageAfter, StepAnswers, asking_of, nodes_left, remaining, begun_at, is_later, is_out}
+use Rattle.ftp_dialogue.specs.Steps.Stages.{AnswersKind, Begun, GoesOnTo, NotBegun, StageAfter, StepAnswers, asking_of, nodes_left, remaining, begun_at, is_later}
 use Rattle.ftp_dialogue.specs.Link.{Link}
 
 -- what is kept afterwards: nothing, as after a reply; or what was, by its rule, where none was read

@@ -1,5 +1,6 @@
-use Rattle.std.proofs.Common.{◌∙◌, ◌-◌, ap, sym, arith}
-use Rattle.ftp_dialogue.proofs.CatchingUpLemmas.{reads_fault, reads_more, reads_no_more, reads_none, reads_waits}
+use Rattle.std.proofs.Common.{◌∙◌, ◌-◌, sym, arith}
+use Rattle.ftp_dialogue.specs.Unanswered.{most_commands}
+use Rattle.ftp_dialogue.proofs.CatchingUpLemmas.{due_fails, reads_fault, reads_more, reads_no_more, reads_none, reads_waits}
 use Rattle.ftp_dialogue.proofs.machine.Machine.poll_due.Goals as goal
 
 pub due-init : goal.due-init
@@ -19,3 +20,15 @@ due-preserved g c = λ new result then. c.due.invariant new result (reads_more _
 
 pub returns-clause-reads : goal.returns-clause-reads
 returns-clause-reads g c = c.due.invariant _ _ (reads_no_more _ _ c.due.left c.due.self c.due-test.false)
+
+pub returns-then-is_caught_up-clause-fails : goal.returns-then-is_caught_up-clause-fails
+returns-then-is_caught_up-clause-fails g c = due_fails _ _ most_commands c.args.self.now _ _ (returns-then-is_caught_up-clause-reads g c)
+
+pub returns-in-Some-clause-fails : goal.returns-in-Some-clause-fails
+returns-in-Some-clause-fails g c = due_fails _ _ most_commands c.args.self.now _ _ (returns-in-Some-clause-reads g c)
+
+pub returns-in-Pending-clause-fails : goal.returns-in-Pending-clause-fails
+returns-in-Pending-clause-fails g c = due_fails _ _ most_commands c.args.self.now _ _ (returns-in-Pending-clause-reads g c)
+
+pub returns-clause-fails : goal.returns-clause-fails
+returns-clause-fails g c = due_fails _ _ most_commands c.args.self.now _ _ (returns-clause-reads g c)
