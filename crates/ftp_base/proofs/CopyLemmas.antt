@@ -1,7 +1,7 @@
 -- Lemmas on a copy from a reader to a writer, CR LF at each line's end.
 use Rattle.std.proofs.Common.{append_assoc, append-nil, Result, Ok, Err, OnErr, ◌≡◌, ℕ, Bool, true, false, cond, not, ◌&&◌, ◌==◌, List, [], ◌∷◌, ◌++◌, ◌+◌, ◌-◌, ◌≤◌, ◌<◌, Option, Some, None, IfSome, refl, sym, ap, subst, ◌∙◌, length, arith}
-use Rattle.std.specs.Io.KnownBytes.{Appends, Consumes, IsAtEnd}
-use Rattle.std.proofs.KnownBytes.{Appends-trans, Appends-nil, Consumes-nil, Consumes-trans, Consumes-whole}
+use Rattle.std.specs.Io.KnownBytes.{Appends, Consumes}
+use Rattle.std.proofs.KnownBytes.{Appends-trans, Appends-nil, Consumes-nil, Consumes-trans}
 use Rattle.std.proofs.lemmas.List.{append_cancel_left, length-append}
 use Rattle.ftp_base.specs.Ascii.{on_wire, crlf, converted, ends_in_return, AddsPiece, AppendsFront}
 use Rattle.ftp_base.proofs.AsciiLemmas.{crlf-append}
@@ -53,14 +53,6 @@ Copies-more r s t w v u after after' count piece old new copied taken adds empty
       last = last;
       counted = rw (whole, length-append (crlf copied.given) new) (ap (λ n. n + length new) copied.counted);
     }
-
--- a copy up to the reader's end is of all that the reader gave
-pub Copies-end : (r s w v : Option (List ℕ)) (after : Bool) (count : ℕ) → Copies r s w v after count → IsAtEnd s →
-    IfSome r (λ source. Appends w v (crlf source)) × IfSome r (λ source. count ≡ length (crlf source))
-Copies-end r s w v after count copied end = (
-  Consumes-whole r s copied.given (λ source. Appends w v (crlf source)) copied.taken end copied.written,
-  Consumes-whole r s copied.given (λ source. count ≡ length (crlf source)) copied.taken end copied.counted,
-)
 
 -- what comes after bytes makes their wire bytes no shorter
 pub length-crlf-append : (before bs : List ℕ) → length (crlf before) ≤ length (crlf (before ++ bs))

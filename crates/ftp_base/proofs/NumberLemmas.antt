@@ -1,6 +1,6 @@
 -- Lemmas on the numbers that digits write.
 use Rattle.std.proofs.Common.{◌≡◌, ℕ, ◌+◌, ◌-◌, ◌*◌, ◌≤◌, ◌<◌, true, false, cond, Some, None, List, [], ◌∷◌, length, refl, arith, leb, drop, get_or, add-one, drop-cons}
-use Rattle.std.proofs.lemmas.Bool.{le-leb, lt-leb}
+use Rattle.std.proofs.lemmas.Bool.{lt-leb}
 use Rattle.std.specs.List.{list_all}
 use Rattle.std.specs.Char.{is_ascii_digit}
 use Rattle.ftp_base.specs.Scan.{digits_value, number_up_to}
@@ -10,20 +10,12 @@ pub digits_value-le : (digits : List ℕ) (before : ℕ) → before ≤ digits_v
 digits_value-le [] before = omega arith
 digits_value-le (d ∷ digits) before = omega (arith, digits_value-le digits (before * 10 + (d - 48)))
 
-pub no_number-letter : (digits : List ℕ) (most : ℕ) → list_all is_ascii_digit digits ≡ false → number_up_to most digits ≡ None
-no_number-letter [] most letter = refl
-no_number-letter (d ∷ digits) most letter = rw letter
-
 pub no_number-above : (digits : List ℕ) (most : ℕ) → most < digits_value 0 digits → number_up_to most digits ≡ None
 no_number-above [] most above = refl
 no_number-above (d ∷ digits) most above =
     let test = lt-leb (digits_value 0 (d ∷ digits)) most above in
     elim (list_all is_ascii_digit (d ∷ digits)) as (λ t. cond t (cond (leb (digits_value 0 (d ∷ digits)) most) (Some (digits_value 0 (d ∷ digits))) None) None ≡ None)
     [ true ↦ rw test | false ↦ refl ]
-
-pub a_number : (digits : List ℕ) (most : ℕ) → 0 < length digits → list_all is_ascii_digit digits ≡ true → digits_value 0 digits ≤ most → number_up_to most digits ≡ Some (digits_value 0 digits)
-a_number [] most some all fits = absurd (omega arith)
-a_number (d ∷ digits) most some all fits = rw (all, le-leb (digits_value 0 (d ∷ digits)) most fits)
 
 -- one digit more leads above the most
 pub above_turn : (digits : List ℕ) (most value place : ℕ) → place < length digits → digits_value value (drop place digits) ≡ digits_value 0 digits → most < value * 10 + (get_or digits place 0 - 48) → number_up_to most digits ≡ None

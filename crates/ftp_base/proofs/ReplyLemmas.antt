@@ -1,9 +1,9 @@
 -- Lemmas on the text of replies.
-use Rattle.std.proofs.Common.{◌≡◌, ℕ, zero, suc, ◌+◌, ◌-◌, ◌<◌, ◌≤◌, ◌==◌, ◌||◌, Bool, cond, List, [], ◌∷◌, length, take, drop, slice_index, Some, None, true, false, refl, ap, sym, ◌∙◌, arith}
+use Rattle.std.proofs.Common.{◌≡◌, ℕ, zero, suc, ◌+◌, ◌-◌, ◌<◌, ◌==◌, Bool, List, [], ◌∷◌, length, take, drop, slice_index, Some, None, true, false, refl, ap, sym, ◌∙◌, arith}
 use Rattle.std.specs.List.{IsLastAndRest, list_any}
 use Rattle.std.proofs.Math.Seq.{take-append_seam}
 use Rattle.std.proofs.lemmas.List.Folds.{list_any_at}
-use Rattle.memchr.specs.Find.{IsLastByte, NoneAfter, Nowhere, Passes, is_byte}
+use Rattle.memchr.specs.Find.{IsLastByte, is_byte}
 use Rattle.std.specs.Str.{IsUtf8, is_utf8, trim_end}
 use Rattle.std.proofs.lemmas.Str.{is_utf8-from_IsUtf8, IsUtf8-from_is_utf8}
 use Rattle.ftp_base.specs.Reply.{after_feeds, begins_with_one, ending_line, strict_text}

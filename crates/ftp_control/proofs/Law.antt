@@ -1,11 +1,10 @@
 -- What is settled stays, however the input goes on.
-use Rattle.std.proofs.Common.{◌≡◌, ◌⊎◌, inl, inr, ◌&&◌, ℕ, ◌+◌, ◌≤◌, ◌<◌, Bool, true, false, cond, List, [], ◌∷◌, ◌++◌, length, Result, Ok, refl, ap, sym, ◌∙◌, subst, arith, length-append, append-nil, leb, ltb}
+use Rattle.std.proofs.Common.{◌≡◌, ◌⊎◌, inl, inr, ◌&&◌, ℕ, ◌+◌, ◌≤◌, ◌<◌, Bool, true, false, cond, List, [], ◌∷◌, ◌++◌, length, refl, ap, sym, ◌∙◌, subst, arith, length-append, append-nil, leb, ltb}
 use Rattle.std.proofs.lemmas.Bool.{lt-leb, lt-ltb, ltb-true}
 use Rattle.ftp_control.specs.declared.control.rule.ReplyRule.{ReplyRule}
 use Rattle.ftp_control.specs.declared.control.outcome.Outcome.{Outcome}
 use Rattle.ftp_control.specs.declared.control.outcome.Outcome.TheVariants.{Whole, Bad, TooLarge, Ended, Waits}
-use Rattle.ftp_control.specs.declared.control.broken.Broken.{Broken}
-use Rattle.ftp_control.specs.Reading.{AnswersOutcome, GoesOn}
+use Rattle.ftp_control.specs.Reading.{GoesOn}
 use Rattle.ftp_control.specs.declared.plain.Found.{Found}
 use Rattle.ftp_control.specs.declared.plain.Found.TheVariants.{Reply, NoReply, Unfinished}
 use Rattle.ftp_base.specs.Features.{is_last}
@@ -193,14 +192,6 @@ answer_stays rule form bytes false heard settled is more e on =
     go TooLarge other e = tt
     go Ended other e = never_ended rule form bytes (sym e)
     go Waits other e = other refl
-
--- a reply is cut off by the end of the input alone
-pub ended_last : (rule : ReplyRule) (form : ReplyForm) (bytes : List ℕ) (ended : Bool) (result : Result Outcome Broken) → AnswersOutcome result (outcome rule form bytes ended) → result ≡ Ok Ended → ended ≡ true
-ended_last rule form bytes true result is e = refl
-ended_last rule form bytes false result is e =
-    let P : Result Outcome Broken → Type 0 = λ r. AnswersOutcome r (outcome rule form bytes false) in
-    let ended : Ended ≡ outcome rule form bytes false = subst P e is in
-    absurd (never_ended rule form bytes (sym ended))
 
 -- Single lines: what is said of one that came with others stays, too
 

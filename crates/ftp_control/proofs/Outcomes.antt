@@ -672,10 +672,6 @@ line_nothing = refl
 pub no_line_yet : (bytes : List ℕ) (b : ℕ) → whole_lines bytes ≡ [] → is_line_feed b ≡ false → whole_lines (bytes ++ b ∷ []) ≡ []
 no_line_yet bytes b none other = whole_lines-other bytes b other ∙ none
 
-pub nothing_waits : line_outcome [] false ≡ Waits
-unfolding line_outcome
-nothing_waits = refl
-
 -- no whole line is kept exactly where the line under way begins at 0
 pub no_line_starts : (bytes : List ℕ) (start : ℕ) → start + length (rest bytes) ≡ length bytes → whole_lines bytes ≡ [] → start ≡ 0
 no_line_starts bytes start split none = let all : length (rest bytes) ≡ length bytes = ap length (rest_all bytes none) in omega (arith, split, all)

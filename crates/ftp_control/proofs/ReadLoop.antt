@@ -2,47 +2,20 @@
 use Rattle.std.proofs.Common.{◌≡◌, ℕ, ◌+◌, ◌-◌, ◌≤◌, ◌<◌, Bool, true, false, cond, not, List, [], ◌++◌, length, Ok, Err, refl, ap, sym, ◌∙◌, append_assoc, append-nil, length-append, subst, arith}
 use Rattle.std.specs.declared.io.ErrorKind.{ErrorKind}
 use Rattle.futures.specs.declared.task.Poll.TheVariants.{Ready}
-use Rattle.ftp_control.specs.declared.control.broken.Broken.{Broken}
 use Rattle.ftp_control.specs.declared.control.broken.Broken.TheVariants.{Connection, OutOfMemory}
 use Rattle.ftp_control.specs.declared.control.outcome.Outcome.{Outcome}
-use Rattle.ftp_control.specs.declared.control.outcome.Outcome.TheVariants.{Whole, Bad, TooLarge, Ended, Waits}
-use Rattle.ftp_transport.specs.Told.{Told, IsDry, HasFailed, after_read, after_end}
-use Rattle.ftp_control.specs.Reading.{after_input, GoesOn, HearTells}
+use Rattle.ftp_control.specs.declared.control.outcome.Outcome.TheVariants.{Ended, Waits}
+use Rattle.ftp_transport.specs.Told.{Told, HasFailed, after_read, after_end}
+use Rattle.ftp_control.specs.Reading.{after_input, GoesOn}
 use Rattle.ftp_control.specs.Grammar.{reply_limit}
 use Rattle.ftp_control.specs.Inside.Ahead.{Fills}
-use Rattle.ftp_control.specs.Inside.ReadLoop.{TakesAll, Takes, ReadsSought}
+use Rattle.ftp_control.specs.Inside.ReadLoop.{Takes, ReadsSought}
 
 -- what was looked at so far, where it says nothing yet
 pub record LooksSoFar (says : List ℕ → Bool → Outcome) (kept kept' ahead ahead' : List ℕ) : Type 0 where
   pub split : kept ++ ahead ≡ kept' ++ ahead'
   pub past : length ahead' ≤ length ahead
   pub waits : says kept false ≡ Waits → says kept' false ≡ Waits
-
-pub nothing_looked_at : (says : List ℕ → Bool → Outcome) (kept ahead : List ℕ) → LooksSoFar says kept kept ahead ahead
-nothing_looked_at says kept ahead = record { split = refl; past = omega arith; waits = λ w. w }
-
-module _ (says : List ℕ → Bool → Outcome) (kept now ahead left : List ℕ) (so_far : LooksSoFar says kept now ahead left) (piece after : List ℕ) (parts : left ≡ piece ++ after) where
-  next_split : kept ++ ahead ≡ (now ++ piece) ++ after
-  next_split = so_far.split ∙ ap (λ l. now ++ l) parts ∙ sym (append_assoc now piece after)
-
-  next_past : length after ≤ length ahead
-  next_past = let longer : length left ≡ length piece + length after = ap length parts ∙ length-append piece after in omega (arith, so_far.past, longer)
-
-  -- a piece more, which says nothing yet
-  pub looks_on : (later : List ℕ) → later ≡ now ++ piece → (says now false ≡ Waits → Waits ≡ says (now ++ piece) false) → LooksSoFar says kept later ahead after
-  looks_on later is waits = record { split = rw is next_split; past = next_past; waits = λ w. rw is (sym (waits (so_far.waits w))) }
-
-  -- a piece more settles it
-  pub piece_settles : (later : List ℕ) (heard : Outcome) → (heard ≡ Waits → ⊥) → (heard ≡ Ended → ⊥) → TakesAll (Ok heard) (now ++ piece) later → (says now false ≡ Waits → heard ≡ says (now ++ piece) false) → Takes says kept later ahead after (Ok heard)
-  piece_settles later heard settled goes_on all is = record {
-    taken = now ++ piece;
-    split = next_split;
-    past = next_past;
-    all = all;
-    none = λ w. absurd (settled (let same : Ok heard ≡ Ok Waits = w in cc same));
-    goes_on = λ e. goes_on (let same : Ok heard ≡ Ok Ended = e in cc same);
-    answer = λ w. is (so_far.waits w);
-  }
 
 module _ (says : List ℕ → Bool → Outcome) (kept now ahead left : List ℕ) (so_far : LooksSoFar says kept now ahead left) where
   -- there is no room for a piece more
@@ -55,18 +28,6 @@ module _ (says : List ℕ → Bool → Outcome) (kept now ahead left : List ℕ)
     none = λ w. let clash : Err OutOfMemory ≡ Ok Waits = w in cc;
     goes_on = λ e. let clash : Err OutOfMemory ≡ Ok Ended = e in cc;
     answer = λ w. tt;
-  }
-
-  -- nothing is left to look at
-  pub looked_at_all : left ≡ [] → Takes says kept now ahead left (Ok Waits)
-  looked_at_all none = record {
-    taken = now;
-    split = so_far.split;
-    past = so_far.past;
-    all = refl;
-    none = λ w. none;
-    goes_on = λ e. let clash : Ok Waits ≡ Ok Ended = e in cc;
-    answer = λ w. sym (so_far.waits w);
   }
 
 -- what was read so far, where what was looked at says nothing yet
@@ -98,51 +59,6 @@ goes_on first came more later so_far = record {
 }
 
 module _ (tells : Type 0) (says : List ℕ → Bool → Outcome) (kept now later ahead left after : List ℕ) (first : Bool) (t u : Told) (so_far : SoFar tells says kept now ahead left first false t u) where
-  module _ (heard : Outcome) (looks : Takes says now later left after (Ok heard)) where
-    taken_split : (kept ++ ahead) ++ so_far.came ≡ looks.taken ++ after
-    taken_split = so_far.split ∙ looks.split
-
-    -- what lies ahead settles it
-    pub look_settles : (heard ≡ Waits → ⊥) → ReadsSought tells says kept later ahead after first false t u (Ok heard)
-    look_settles settled = record {
-      came = so_far.came;
-      taken = looks.taken;
-      split = taken_split;
-      past = omega (arith, so_far.past, looks.past);
-      over = so_far.over;
-      unended = λ w. refl;
-      none = looks.none;
-      at_end = λ e. let clash : false ≡ true = e in cc;
-      last = λ e. absurd (looks.goes_on e);
-      all = looks.all;
-      answer = λ w. looks.answer (so_far.waits w);
-      told = λ h. go heard settled (so_far.told h);
-    }
-      where
-        go : (o : Outcome) → (o ≡ Waits → ⊥) → u ≡ after_input so_far.came false t → HearTells (Ok o) so_far.came false t u
-        go (Whole bytes code) other e = e
-        go (Bad line) other e = e
-        go TooLarge other e = e
-        go Ended other e = e
-        go Waits other e = absurd (other refl)
-
-  -- there is no room for what lies ahead
-  pub memory_hears : Takes says now later left after (Err OutOfMemory) → ReadsSought tells says kept later ahead after first false t u (Err OutOfMemory)
-  memory_hears looks = record {
-    came = so_far.came;
-    taken = looks.taken;
-    split = so_far.split ∙ looks.split;
-    past = omega (arith, so_far.past, looks.past);
-    over = so_far.over;
-    unended = λ w. refl;
-    none = λ w. let clash : Err OutOfMemory ≡ Ok Waits = w in cc;
-    at_end = λ e. let clash : false ≡ true = e in cc;
-    last = λ e. let clash : Err OutOfMemory ≡ Ok Ended = e in cc;
-    all = looks.all;
-    answer = λ w. tt;
-    told = λ h. so_far.told h;
-  }
-
   module _ (looks : Takes says now later left after (Ok Waits)) where
     -- all that lay ahead was looked at
     looked_at : (kept ++ ahead) ++ so_far.came ≡ later
@@ -173,23 +89,6 @@ module _ (tells : Type 0) (says : List ℕ → Bool → Outcome) (kept now later
       at_end = λ e. refl;
       waits = still_waits;
       told = λ h. told h ∙ rw (so_far.told h);
-    }
-
-    -- the connection waits
-    pub waits_hears : (v : Told) → (tells → (v ≡ u) × IsDry v) → ReadsSought tells says kept later ahead [] first false t v (Ok Waits)
-    waits_hears v told = record {
-      came = so_far.came;
-      taken = later;
-      split = looked_at ∙ sym (append-nil later);
-      past = omega arith;
-      over = so_far.over;
-      unended = λ w. refl;
-      none = λ w. refl;
-      at_end = λ e. refl;
-      last = λ e. let clash : Ok Waits ≡ Ok Ended = e in cc;
-      all = refl;
-      answer = λ w. sym (still_waits w);
-      told = λ h. ((told h).0 ∙ so_far.told h, (told h).1);
     }
 
     -- the read fails, and nothing is lost
@@ -227,30 +126,6 @@ fill_smaller false before after came same fits bound some = omega (arith, same, 
 pub some_came : (tells : Type 0) (any : Bool) (new : List ℕ) (t u : Told) → Fills tells (Ok (Ready any)) new t u → any ≡ true → 0 < length new
 some_came tells true new t u fills is = fills.leaves
 some_came tells false new t u fills is = let clash : false ≡ true = is in cc
-
--- the end settles it
-pub end_settles : (tells : Type 0) (says : List ℕ → Bool → Outcome) (kept now ahead left : List ℕ) (first : Bool) (t u : Told) → SoFar tells says kept now ahead left first true t u → (later : List ℕ) (heard : Outcome) → (heard ≡ Waits → ⊥) → (says now false ≡ Waits → heard ≡ says now true) → TakesAll (Ok heard) now later → ReadsSought tells says kept later ahead left first true t u (Ok heard)
-end_settles tells says kept now ahead left first t u so_far later heard settled is whole = record {
-  came = so_far.came;
-  taken = now;
-  split = so_far.split;
-  past = so_far.past;
-  over = so_far.over;
-  unended = λ w. absurd (settled (let same : Ok heard ≡ Ok Waits = w in cc same));
-  none = λ w. so_far.at_end refl;
-  at_end = so_far.at_end;
-  last = λ e. refl;
-  all = whole;
-  answer = λ w. is (so_far.waits w);
-  told = λ h. go heard settled (so_far.told h);
-}
-  where
-    go : (o : Outcome) → (o ≡ Waits → ⊥) → u ≡ after_input so_far.came true t → HearTells (Ok o) so_far.came true t u
-    go (Whole bytes code) other e = e
-    go (Bad line) other e = e
-    go TooLarge other e = e
-    go Ended other e = e
-    go Waits other e = absurd (other refl)
 
 -- the connection's record knows whether it has ended
 pub fill_known : (tells : Type 0) (any : Bool) (new : List ℕ) (t u : Told) → Fills tells (Ok (Ready any)) new t u → tells → t.ended ≡ false → u.ended ≡ not any

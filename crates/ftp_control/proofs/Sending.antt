@@ -1,9 +1,9 @@
 -- Lemmas on what goes out.
-use Rattle.std.proofs.Common.{◌≡◌, ℕ, List, [], ◌++◌, take, drop, Ok, Err, refl, ap, sym, ◌∙◌, subst, append_assoc, append-nil}
+use Rattle.std.proofs.Common.{◌≡◌, ℕ, List, [], ◌++◌, take, drop, Ok, refl, ap, sym, ◌∙◌, subst, append_assoc}
 use Rattle.std.specs.declared.io.ErrorKind.{ErrorKind}
-use Rattle.futures.specs.declared.task.Poll.TheVariants.{Ready, Pending}
+use Rattle.futures.specs.declared.task.Poll.TheVariants.{Ready}
 use Rattle.std.proofs.lemmas.List.{take-append-drop}
-use Rattle.ftp_transport.specs.Told.{Told, Fits, IsFull, HasFailed, after_write, before_fault}
+use Rattle.ftp_transport.specs.Told.{Told, Fits, HasFailed, after_write, before_fault}
 use Rattle.ftp_control.specs.Sending.{Flushes}
 
 -- bytes went out
@@ -12,9 +12,6 @@ pub record SentSoFar (tells : Type 0) (unsent unsent' : List ℕ) (t u : Told) :
   pub split : unsent ≡ part ++ unsent'
   pub told : tells → u ≡ after_write part t
   pub fits : tells → Fits t → Fits u
-
-pub nothing_sent : (tells : Type 0) (unsent : List ℕ) (t : Told) → SentSoFar tells unsent unsent t t
-nothing_sent tells unsent t = record { part = []; split = refl; told = λ h. rw (append-nil t.sent); fits = λ h f. f }
 
 module _ (tells : Type 0) (unsent now : List ℕ) (t u : Told) (so_far : SentSoFar tells unsent now t u) where
   -- more bytes go out
@@ -29,27 +26,9 @@ module _ (tells : Type 0) (unsent now : List ℕ) (t u : Told) (so_far : SentSoF
   pub all_sent : now ≡ [] → Flushes tells unsent now t u (Ok (Ready tt))
   all_sent none = record { part = so_far.part; split = so_far.split; leaves = none; told = so_far.told; fits = so_far.fits }
 
-  pub room_awaited : (v : Told) → (now ≡ [] → ⊥) → (tells → (v ≡ u) × IsFull v) → Flushes tells unsent now t v (Ok Pending)
-  room_awaited v some told = record {
-    part = so_far.part;
-    split = so_far.split;
-    leaves = some;
-    told = λ h. ((told h).0 ∙ so_far.told h, (told h).1);
-    fits = λ h f. let P : Told → Type 0 = Fits in subst P (sym (told h).0) (so_far.fits h f);
-  }
-
   -- the record before a write that failed
   pub before_failure : (kind : ErrorKind) (v : Told) → tells → HasFailed kind u v → u ≡ before_fault t v
   before_failure kind v h failed =
       let F : Told → Told = before_fault t in
       let counts : u ≡ before_fault t u = (let P : Told → Type 0 = λ x. x ≡ before_fault t x in subst P (sym (so_far.told h)) refl) in
       counts ∙ sym (ap F failed.same)
-
-  pub write_failed : (kind : ErrorKind) (v : Told) → (tells → HasFailed kind u v) → Flushes tells unsent now t v (Err kind)
-  write_failed kind v told = record {
-    part = so_far.part;
-    split = so_far.split;
-    leaves = tt;
-    told = λ h. let P : Told → Type 0 = λ x. HasFailed kind x v in subst P (so_far.told h) (told h);
-    fits = λ h f. let P : Told → Type 0 = Fits in subst P (sym (told h).same) (so_far.fits h f);
-  }

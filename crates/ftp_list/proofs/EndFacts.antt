@@ -1,17 +1,15 @@
 -- Where parts can end, shape by shape.
 use Rattle.std.proofs.Common.{◌≡◌, ℕ, zero, suc, ◌+◌, ◌-◌, ◌<◌, ◌≤◌, Bool, true, false, cond, List, [], ◌∷◌, length, drop, get_or, refl, sym, ◌∙◌, ap, arith, subst}
-use Rattle.std.specs.Prelude.{min}
 use Rattle.std.specs.List.{prefix_len}
 use Rattle.std.proofs.lemmas.Bool.{false≢true}
 use Rattle.std.proofs.lemmas.List.{drop_more, drop-drop, drop_all, length-drop}
 use Rattle.ftp_list.specs.declared.class.Class.{Class}
-use Rattle.ftp_list.specs.declared.shape.Form.{Form}
 use Rattle.ftp_list.specs.declared.shape.Shape.{Shape}
-use Rattle.ftp_list.specs.declared.shape.Shape.TheVariants.{OneOrMore, AnyNumber, Short}
-use Rattle.ftp_list.specs.Shapes.{is_in, is_form}
+use Rattle.ftp_list.specs.declared.shape.Shape.TheVariants.{OneOrMore, AnyNumber}
+use Rattle.ftp_list.specs.Shapes.{is_in}
 use Rattle.ftp_list.specs.Split.{IsSplit, HasNoSplit}
 use Rattle.ftp_list.specs.Rows.{Fits, CanSplit, IsReach}
-use Rattle.ftp_list.proofs.ReachFacts.{one_bounded, any_bounded, one_positive, short_bounded}
+use Rattle.ftp_list.proofs.ReachFacts.{one_bounded, any_bounded, one_positive}
 use Rattle.ftp_list.proofs.RowFacts.{First, first_part, not_nil}
 
 run_step : (b : Bool) (k n m : ℕ) → n ≤ k + m → cond b (1 + n) 0 ≤ suc k + m
@@ -39,14 +37,6 @@ far_one class text last end e p n l f = rw e (far_run class text last p n l (one
 pub far_any : (class : Class) (text : List ℕ) (last end : ℕ) → end ≡ prefix_len (is_in class) (drop last text) → (p n : ℕ) → p ≤ last → Fits (AnyNumber class) (drop p text) n → p + n ≤ last + end
 far_any class text last end e p n l f = rw e (far_run class text last p n l (any_bounded class (drop p text) n f))
 
--- nor one of a form farther than the form's greatest length, or the text
-pub far_short : (form : Form) (text : List ℕ) (last most end : ℕ) → last ≤ length text → ((piece : List ℕ) → is_form form piece ≡ true → length piece ≤ most) → end ≡ min most (length text - last) → (p n : ℕ) → p ≤ last → Fits (Short form) (drop p text) n → p + n ≤ last + end
-far_short form text last most end w bound e p n l f =
-    let a : n ≤ most = short_bounded form (drop p text) most n bound f in
-    let b : n ≤ length (drop p text) = f.within in
-    let size : length (drop p text) ≡ length text - p = length-drop p text in
-    omega arith
-
 -- no part of one or more stands at the end of the text
 pub none_at_end : (class : Class) (text : List ℕ) → length text ≡ 0 → (n : ℕ) → Fits (OneOrMore class) text n → ⊥
 none_at_end class text e n f =
@@ -66,13 +56,6 @@ none_outside class (x ∷ xs) c l is e n f =
     let least : 1 ≤ n = one_positive class (x ∷ xs) n f in
     let bound : n ≤ prefix_len (is_in class) (x ∷ xs) = one_bounded class (x ∷ xs) n f in
     omega arith
-
--- at the start
-pub reach_start : (shapes : List Shape) (text : List ℕ) → IsReach shapes text 0 0 0
-reach_start shapes text = record {
-  within = omega arith;
-  at = λ s. record { place = 0; low = omega arith; high = omega arith; behind = s };
-}
 
 part_there : (shapes : List Shape) (text : List ℕ) (i p : ℕ) (shape : Shape) → i < length shapes → shape ≡ get_or shapes i shape → (s : CanSplit (drop i shapes) (drop p text)) → First shape (drop (i + 1) shapes) s.lengths (drop p text)
 part_there shapes text i p shape lt e s =
@@ -94,16 +77,6 @@ reach_more shapes text i first last next end shape lt e reach low high w =
             high = high r.place f.n r.high f.fits;
             behind = record { lengths = f.ns; split = subst (λ (t : List ℕ). IsSplit (drop (i + 1) shapes) f.ns t) (drop-drop f.n r.place text) f.tail };
           };
-    }
-
--- where the shape stands nowhere there is no split
-pub reach_stops : (shapes : List Shape) (text : List ℕ) (i first last : ℕ) (shape : Shape) → i < length shapes → shape ≡ get_or shapes i shape → IsReach shapes text i first last → ((p n : ℕ) → first ≤ p → p ≤ last → Fits shape (drop p text) n → ⊥) → HasNoSplit shapes text
-reach_stops shapes text i first last shape lt e reach nowhere =
-    record {
-      none = λ lengths split.
-          let r = reach.at (record { lengths = lengths; split = split }) in
-          let f = part_there shapes text i r.place shape lt e r.behind in
-          nowhere r.place f.n r.low r.high f.fits;
     }
 
 -- nor where all parts end before the text does

@@ -2,7 +2,7 @@
 use Rattle.std.proofs.Common.{◌≡◌, ℕ, suc, ◌+◌, ◌-◌, ◌<◌, ◌≤◌, Bool, true, false, cond, eqb, List, [], ◌∷◌, length, take, drop, get_or, refl, sym, ◌∙◌, ap, arith, inl, inr}
 use Rattle.std.specs.Prelude.{not, Result, Ok, Err, Some, None, ◌⊎◌}
 use Rattle.std.specs.List.{position_or_len, suffix_len, slice_split, onto_first, after_last, filter_map, before_first, after_first}
-use Rattle.std.proofs.lemmas.List.{drop_more, take_all}
+use Rattle.std.proofs.lemmas.List.{take_all}
 use Rattle.std.proofs.lemmas.Bool.{cases_lt}
 use Rattle.std.proofs.lemmas.List.Sums.{suffix_len_is}
 use Rattle.std.proofs.lemmas.List.Splits.{slice_split_first}
@@ -74,10 +74,6 @@ last_piece_is text n l h stop =
     let size : suffix_len (λ x. not (semicolon x)) text ≡ length text - n = suffix_len_is (λ x. not (semicolon x)) text n 0 l h stop in
     let place : length text - suffix_len (λ x. not (semicolon x)) text ≡ n = omega arith in
     ap (λ k. drop k text) place
-
--- one character more
-pub semicolon_more : (text : List ℕ) (i d : ℕ) → i < length text → position_or_len semicolon (drop i text) ≡ cond (not (semicolon (get_or text i d))) (1 + position_or_len semicolon (drop (i + 1) text)) 0
-semicolon_more text i d l = ap (λ (t : List ℕ). position_or_len semicolon t) (drop_more text i d l)
 
 -- a semicolon stops the search
 pub at_semicolon : (text : List ℕ) (i c : ℕ) → get_or text i 0 ≡ c → c ≡ 59 → not (semicolon (get_or text i 0)) ≡ false

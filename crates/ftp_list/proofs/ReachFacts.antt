@@ -5,7 +5,6 @@ use Rattle.std.specs.List.{prefix_len, list_all}
 use Rattle.std.proofs.lemmas.Bool.{false≢true, leb-true, le-leb, cases_lt}
 use Rattle.std.proofs.lemmas.List.{length-take, length-take-le, take-take}
 use Rattle.ftp_list.specs.declared.class.Class.{Class}
-use Rattle.ftp_list.specs.declared.shape.Form.{Form}
 use Rattle.ftp_list.specs.declared.shape.Form.TheVariants.{Between}
 use Rattle.ftp_list.specs.declared.shape.Shape.TheVariants.{OneOrMore, AnyNumber, Short}
 use Rattle.ftp_list.specs.Shapes.{is_in, is_form, all_in}
@@ -68,12 +67,6 @@ one_positive class text n f =
     let counted : 1 ≤ length (take n text) = leb-true 1 (length (take n text)) (first_of_both (leb 1 (length (take n text))) (all_in class (take n text)) f.shaped) in
     rw (length-take-le n text f.within) at counted
 
--- a text of a form is no longer than the form's greatest length
-pub short_bounded : (form : Form) (text : List ℕ) (most n : ℕ) → ((piece : List ℕ) → is_form form piece ≡ true → length piece ≤ most) → Fits (Short form) text n → n ≤ most
-short_bounded form text most n bound f =
-    let counted : length (take n text) ≤ most = bound (take n text) f.shaped in
-    rw (length-take-le n text f.within) at counted
-
 -- the run is the longest part of any number
 pub longest_any : (class : Class) (text : List ℕ) (n : ℕ) → n ≡ prefix_len (is_in class) text → n ≤ length text → Fits (AnyNumber class) text n × ((m : ℕ) → Fits (AnyNumber class) text m → m ≤ n)
 longest_any class text n e l =
@@ -83,13 +76,6 @@ longest_any class text n e l =
 pub longest_one : (class : Class) (text : List ℕ) (n : ℕ) → n ≡ prefix_len (is_in class) text → n ≤ length text → 1 ≤ n → Fits (OneOrMore class) text n × ((m : ℕ) → Fits (OneOrMore class) text m → m ≤ n)
 longest_one class text n e l o =
     (one_fits class text n o (omega arith) l, λ m f. let h : m ≤ prefix_len (is_in class) text = one_bounded class text m f in omega arith)
-
--- an empty run has no part of one or more
-pub longest_none : (class : Class) (text : List ℕ) → 0 ≡ prefix_len (is_in class) text → (m : ℕ) → Fits (OneOrMore class) text m → ⊥
-longest_none class text e m f =
-    let h : m ≤ prefix_len (is_in class) text = one_bounded class text m f in
-    let o : 1 ≤ m = one_positive class text m f in
-    omega arith
 
 -- as many of a class as lie between the least and the most
 pub between_fits : (class : Class) (least most : ℕ) (text : List ℕ) (n : ℕ) → least ≤ n → n ≤ most → n ≤ length text → n ≤ prefix_len (is_in class) (take most text) → Fits (Short (Between class least most)) text n

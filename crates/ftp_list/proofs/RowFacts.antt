@@ -246,8 +246,3 @@ row_more next shape text row more j shorter b left l e r step pushed =
       told = λ shapes told i h. rw pushed (told_more next shape text row j shorter b shapes r (now shapes told) told i h (cases_lt i j));
       last = λ shapes told p. rw last_place (now shapes told);
     }
-
--- a row for all lengths
-pub row_whole : (next : List Bool) (shape : Shape) (text : List ℕ) (row : List Bool) (j : ℕ) (shorter : Bool) (shapes : List Shape) → j ≡ length text + 1 → IsRowSoFar next shape text row j shorter → TellsAll next shapes text → TellsAll row (shape ∷ shapes) text
-row_whole next shape text row j shorter shapes e r told =
-    record { at = λ i h. r.told shapes told i (omega arith) }

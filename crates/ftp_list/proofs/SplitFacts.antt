@@ -6,7 +6,7 @@ use Rattle.std.proofs.lemmas.List.{append_assoc, append-nil, drop_more, drop-dro
 use Rattle.ftp_list.specs.declared.shape.Shape.{Shape}
 use Rattle.ftp_list.specs.Split.{IsSplit, IsAtMost, IsGreatestSplit, HasNoSplit}
 use Rattle.ftp_list.specs.Rows.{Fits, IsOpen, IsGreatestOpen, CanSplit, Tells, TellsAll, IsFront, IsOnlyFront}
-use Rattle.ftp_list.proofs.RowFacts.{first_part, opened, open_tells, tells_end, not_nil}
+use Rattle.ftp_list.proofs.RowFacts.{opened, open_tells, tells_end}
 
 split_most : (shape : Shape) (shapes : List Shape) (n : ℕ) (tail text : List ℕ) (m : ℕ) (ms : List ℕ) → m ≤ n → IsGreatestSplit shapes tail (drop n text) → IsSplit shapes ms (drop m text) → (m < n) ⊎ (n ≤ m) → (m < n) ⊎ ((m ≡ n) × IsAtMost ms tail)
 split_most shape shapes n tail text m ms le g h (inl lt) = inl lt
@@ -55,10 +55,6 @@ front_all shapes text i lengths [] le e front =
     subst (λ (ls : List ℕ). IsGreatestSplit shapes ls text) (append-nil lengths) (front.closes [] (subst (λ (ss : List Shape). IsGreatestSplit ss [] []) (sym none_left) last))
 front_all shapes text i lengths (c ∷ cs) le e front = absurd (omega arith)
 
--- at the start
-pub only_none : (shapes : List Shape) (text : List ℕ) → IsOnlyFront shapes text 0 [] text
-only_none shapes text = record { front = front_none shapes text; none = λ h. h; start = 0; within = omega arith; left_is = refl }
-
 left_tells : (shapes : List Shape) (text : List ℕ) (i : ℕ) (lengths left : List ℕ) (row : List Bool) → IsOnlyFront shapes text i lengths left → TellsAll row (drop (i + 1) shapes) text → TellsAll row (drop (i + 1) shapes) left
 left_tells shapes text i lengths left row front told =
     subst (λ (t : List ℕ). TellsAll row (drop (i + 1) shapes) t) (sym front.left_is) (tells_end row (drop (i + 1) shapes) text front.start front.within told)
@@ -92,18 +88,3 @@ only_closed shapes text i lengths left shape row lt e front told found =
     let here : TellsAll row (drop (i + 1) shapes) left = left_tells shapes text i lengths left row front told in
     let from : drop i shapes ≡ shape ∷ drop (i + 1) shapes = drop_more shapes i shape lt ∙ ap (λ (s : Shape). s ∷ drop (i + 1) shapes) (sym e) in
     front.none (subst (λ (ss : List Shape). HasNoSplit ss left) (sym from) (open_tells shape (drop (i + 1) shapes) left row None found here))
-
--- at the end something is left
-pub only_left : (shapes : List Shape) (text : List ℕ) (i : ℕ) (lengths left : List ℕ) → length shapes ≤ i → 0 < length left → IsOnlyFront shapes text i lengths left → HasNoSplit shapes text
-only_left shapes text i lengths left le lt front =
-    let none_left : drop i shapes ≡ [] = drop_all i shapes le in
-    front.none (subst (λ (ss : List Shape). HasNoSplit ss left) (sym none_left) (record { none = λ ls split. not_nil left ls lt split }))
-
--- where no first part fits there is no split
-pub none_fits : (shape : Shape) (shapes all : List Shape) (text : List ℕ) → all ≡ shape ∷ shapes → ((n : ℕ) → Fits shape text n → ⊥) → HasNoSplit all text
-none_fits shape shapes all text e h =
-    rw e (record {
-      none = λ lengths split.
-          let f = first_part shape shapes lengths text split in
-          h f.n f.fits;
-    })

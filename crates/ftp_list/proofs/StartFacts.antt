@@ -24,15 +24,6 @@ drop_cases : (text : List ℕ) (start n : ℕ) → start ≤ length text → (n 
 drop_cases text start n l (inl lt) = let same : min n (length text - start) ≡ n = omega arith in ap (λ k. drop (start + k) text) (sym same)
 drop_cases text start n l (inr ge) = drop_all (start + n) text (omega arith) ∙ sym (drop_all (start + min n (length text - start)) text (omega arith))
 
--- at the start
-pub starts_none : (starts lengths text : List ℕ) → length starts ≡ 18 → AreStartsSoFar starts lengths text 0 0
-starts_none starts lengths text e = record {
-  count = e;
-  within = omega arith;
-  before = λ j k lt. absurd (omega arith);
-  here = λ k. let plain : 0 + k ≡ k = omega arith in ap (λ j. part j lengths text) plain;
-}
-
 here_more : (starts lengths text : List ℕ) (i start n : ℕ) → i < length lengths → n ≡ get_or lengths i n → AreStartsSoFar starts lengths text i start → (k : ℕ) → part ((i + 1) + k) lengths text ≡ part k (drop (i + 1) lengths) (drop (start + min n (length text - start)) text)
 here_more starts lengths text i start n lt e so k =
     let place : (i + 1) + k ≡ i + suc k = omega arith in
@@ -65,7 +56,3 @@ starts_more starts lengths text i start n lt known e so =
       before = λ j k h. before_more starts lengths text i start known so j k (cases_lt j i) h;
       here = here_more starts lengths text i start n lt e so;
     }
-
--- all of them
-pub starts_all : (starts lengths text : List ℕ) (i start : ℕ) → i ≡ min (length lengths) 18 → AreStartsSoFar starts lengths text i start → AreStarts starts lengths text
-starts_all starts lengths text i start e so = record { at = λ j k lt known. so.before j k (omega arith) }

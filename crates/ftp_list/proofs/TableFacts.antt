@@ -26,10 +26,6 @@ table_more rows more last shapes text n count pushed size told table =
           at_more rows last shapes text size last_told table k row (omega arith) (e ∙ ap (λ (rs : List (Vec Bool Global)). get_or rs k row) pushed) (cases_lt k (length rows));
     }
 
--- no rows yet
-pub table_none : (shapes : List Shape) (text : List ℕ) → IsTable [] shapes text
-table_none shapes text = record { at = λ k row lt e. absurd (omega arith) }
-
 -- the shapes from one place on are the shape there and those behind it
 pub shapes_from : (shapes : List Shape) (k : ℕ) (d : Shape) → 1 ≤ k → k ≤ length shapes → drop (length shapes - k) shapes ≡ get_or shapes (length shapes - k) d ∷ drop (length shapes - (k - 1)) shapes
 shapes_from shapes k d least most =

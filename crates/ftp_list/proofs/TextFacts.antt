@@ -1,9 +1,9 @@
 -- Blanks at the end of a text, and words, character by character.
-use Rattle.std.proofs.Common.{◌≡◌, ℕ, suc, ◌+◌, ◌-◌, ◌<◌, ◌≤◌, Bool, true, false, cond, eqb, List, [], ◌∷◌, ◌++◌, length, take, drop, get_or, refl, sym, ◌∙◌, ap, arith}
+use Rattle.std.proofs.Common.{◌≡◌, ℕ, suc, ◌+◌, ◌-◌, ◌<◌, ◌≤◌, Bool, true, false, cond, eqb, List, [], ◌∷◌, ◌++◌, length, take, get_or, refl, sym, ◌∙◌, ap, arith}
 use Rattle.std.specs.Prelude.{◌&&◌, encode_utf8_all, encode_utf8}
 use Rattle.std.specs.Char.{to_ascii_lowercase}
 use Rattle.std.specs.List.{list_all}
-use Rattle.std.proofs.lemmas.List.{append-nil, drop_more, take_more}
+use Rattle.std.proofs.lemmas.List.{append-nil, take_more}
 use Rattle.std.proofs.lemmas.Str.{encodes-append}
 use Rattle.ftp_list.specs.declared.class.Class.TheVariants.{Blank}
 use Rattle.ftp_list.specs.Shapes.{is_in, all_in}
@@ -56,10 +56,6 @@ is_word_length [] (c ∷ cs) h = refl
 is_word_length (w ∷ ws) [] h = refl
 is_word_length (w ∷ ws) (c ∷ cs) h =
     ap (λ b. eqb (to_ascii_lowercase c) w && b) (is_word_length ws cs (λ e. h (ap suc e))) ∙ and_false (eqb (to_ascii_lowercase c) w)
-
--- one character more
-pub is_word_more : (word text : List ℕ) (i d e : ℕ) → i < length word → i < length text → is_word (drop i word) (drop i text) ≡ (eqb (to_ascii_lowercase (get_or text i d)) (get_or word i e) && is_word (drop (i + 1) word) (drop (i + 1) text))
-is_word_more word text i d e l m = ap (λ (ws : List ℕ). is_word ws (drop i text)) (drop_more word i e l) ∙ ap (is_word (get_or word i e ∷ drop (i + 1) word)) (drop_more text i d m)
 
 -- the bytes of one character more
 pub encoded_more : (text : List ℕ) (i d : ℕ) → i < length text → encode_utf8_all (take (i + 1) text) ≡ encode_utf8_all (take i text) ++ encode_utf8 (get_or text i d)

@@ -41,10 +41,6 @@ module _ (refuses : List Supply → ConnectionError → Type 0) where
   refused_more (first ∷ answered) one fault last cause before between after refused is due =
       (refused.0, refused.1, refused.2, refused.3, refused_more answered one refused.0 last cause refused.1 between after refused.4 is due)
 
-  -- nothing was asked
-  pub refused_none : (requests : List Request) (fault : ConnectionError) (ready : List Supply) (asked : List Asked) → RefusedInTurn refuses requests requests fault fault ready ready asked asked
-  refused_none requests fault ready asked = record { answered = []; in_order = refl; refused = (refl, refl); recorded_are = sym (append-nil asked) }
-
   -- the next request was refused, too
   pub refused_next : (requests left : List Request) (request : Request) (fault last cause : ConnectionError) (ready due ready' : List Supply) (asked before asked' : List Asked) → RefusedInTurn refuses requests (request ∷ left) fault last ready due asked before → asked' ≡ recorded request (Refused cause) before → IsDue refuses cause due ready' → RefusedInTurn refuses requests left fault cause ready ready' asked asked'
   refused_next requests left request fault last cause ready due ready' asked before asked' so_far recorded_is is_due =

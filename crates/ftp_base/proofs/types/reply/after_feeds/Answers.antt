@@ -1,4 +1,4 @@
-use Rattle.std.proofs.Common.{◌≡◌, ◌∙◌, ◌+◌, ◌-◌, List, ℕ, length, take, drop, arith}
+use Rattle.std.proofs.Common.{◌∙◌, ◌+◌, ◌-◌, length, drop, arith}
 use Rattle.std.proofs.lemmas.List.{take_all, length-drop}
 use Rattle.ftp_base.proofs.ReplyLemmas.{after_feeds_none, after_feeds_some}
 use Rattle.ftp_base.proofs.types.reply.after_feeds.Goals as goal

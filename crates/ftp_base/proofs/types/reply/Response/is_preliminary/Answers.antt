@@ -1,4 +1,4 @@
-use Rattle.std.proofs.Common.{◌≡◌, ◌∙◌, ◌-◌, List, ℕ, [], length, take, sym, ap, subst, refl, arith}
+use Rattle.std.proofs.Common.{◌∙◌, length, sym, ap}
 use Rattle.ftp_base.specs.Reply.{after_feeds, begins_with_one, ending_line, is_preliminary}
 use Rattle.ftp_base.proofs.ReplyLemmas.{empty_ends, front_is}
 use Rattle.ftp_base.proofs.types.reply.Response.is_preliminary.Goals as goal
