@@ -1,5 +1,5 @@
 -- Lemmas on calls that are polled.
-use Rattle.std.proofs.Common.{◌≡◌, Bool, true, false, Option, None, sym, subst}
+use Rattle.std.proofs.Common.{◌≡◌, Bool, true, false, Option, sym, subst}
 use Rattle.futures.specs.declared.task.Poll.{Poll}
 use Rattle.futures.specs.declared.task.Poll.TheVariants.{Ready, Pending}
 use Rattle.ftp_calls.specs.declared.call.Answer.{Answer}
@@ -8,17 +8,15 @@ use Rattle.ftp_calls.specs.declared.call.Call.TheVariants.{Drain}
 use Rattle.ftp_calls.specs.declared.exchange.Turn.TheVariants.{First}
 use Rattle.ftp_transfer.specs.Mark.{End}
 use Rattle.ftp_dialogue.specs.Coding.{Coding}
-use Rattle.ftp_base.specs.declared.types.fault.FtpError.{FtpError}
 use Rattle.ftp_calls.specs.Exchanges.{drains}
-use Rattle.ftp_dialogue.specs.CatchingUp.{CatchesUp, is_behind, is_plain_read}
-use Rattle.ftp_dialogue.specs.Link.{Link, unasked}
+use Rattle.ftp_dialogue.specs.Link.{Link}
 use Rattle.ftp_dialogue.specs.Play.{is_unit}
 use Rattle.ftp_dialogue.specs.Promises.{due_of}
 use Rattle.ftp_dialogue.specs.State.{SessionValue}
 use Rattle.ftp_dialogue.specs.Steps.Polls.{StartsTo}
 use Rattle.ftp_dialogue.specs.declared.stage.Stage.{Stage}
 use Rattle.ftp_dialogue.specs.declared.stage.Stage.TheVariants.{At}
-use Rattle.ftp_session.specs.Polled.{DrainsFirst, IsOver, LooksFirst, EndsOrPolls, PollsCall, PollsInStep, PollsInStepIf, PollsNext, PollsNextIf, PollsUnless, ThenPolls, ThenStartsIf, UnderWay, after_poll, still_behind}
+use Rattle.ftp_session.specs.Polled.{DrainsFirst, LooksFirst, PollsCall, PollsInStep, PollsNext, PollsNextIf, PollsUnless, ThenStartsIf, UnderWay, after_poll}
 
 module _ (link : Link) (may_wait : Type 0) (coding : Coding) (call : Call) (stage stage' : Stage) (v w : SessionValue) (result : Poll Answer) where
   pub next_undue : due_of call v ≡ false → StartsTo link may_wait coding call stage stage' v w result → PollsNext link may_wait coding call stage stage' v w result

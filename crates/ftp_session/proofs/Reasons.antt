@@ -1,5 +1,5 @@
 -- Why a call that may ask something beside the control connection returns an error of a connection, or `SessionFailed`.
-use Rattle.std.proofs.Common.{◌≡◌, ℕ, zero, suc, Bool, true, false, cond, eqb, List, [], ◌∷◌, Option, Some, None, Result, Ok, Err, inl, inr, ◌⊎◌, refl, ap, sym, ◌∙◌, subst}
+use Rattle.std.proofs.Common.{◌≡◌, ℕ, zero, suc, Bool, true, false, cond, List, [], ◌∷◌, Option, Some, None, Result, Ok, Err, inl, inr, ◌⊎◌, refl, ap, sym, ◌∙◌, subst}
 use Rattle.std.specs.Prelude.{IfErr}
 use Rattle.std.specs.declared.io.ErrorKind.{ErrorKind}
 use Rattle.futures.specs.declared.task.Poll.{Poll}
@@ -20,7 +20,7 @@ use Rattle.ftp_calls.specs.declared.exchange.Turn.TheVariants.{Second}
 use Rattle.ftp_transfer.specs.Mark.{End}
 use Rattle.ftp_dialogue.specs.CatchingUp.{After, CatchesUp, Flushes, InStepIf, MakesThen, PlaysInStep, ReadsDue, ReadsIf, ReadsOne, fault_told, is_behind, is_caught_up, is_plain_read, told_by}
 use Rattle.ftp_dialogue.specs.Coding.{Coding}
-use Rattle.ftp_dialogue.specs.Counted.{CountsFailure, CountsFaults, CountsFaultsBeside, IsGivenBeside}
+use Rattle.ftp_dialogue.specs.Counted.{CountsFailure, CountsFaultsBeside, IsGivenBeside}
 use Rattle.ftp_dialogue.specs.Dialogue.{Tree, Hear, dialogue, expecting}
 use Rattle.ftp_dialogue.specs.Link.{Link, unasked}
 use Rattle.ftp_dialogue.specs.NetEvents.{Constructed, Dropped, Handshook, Moved, Net, NetEvent, NetEvents, Parted, Requested}

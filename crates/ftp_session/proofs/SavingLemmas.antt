@@ -8,7 +8,7 @@ use Rattle.std.proofs.lemmas.Bool.{eqb-true}
 use Rattle.std.specs.declared.io.ErrorKind.{ErrorKind}
 use Rattle.ftp_base.specs.Ascii.{AppendsFront}
 use Rattle.ftp_base.specs.declared.types.fault.FtpError.{FtpError}
-use Rattle.ftp_base.specs.declared.types.fault.FtpError.TheVariants.{ConnectionError, OutOfMemory}
+use Rattle.ftp_base.specs.declared.types.fault.FtpError.TheVariants.{ConnectionError}
 use Rattle.ftp_base.specs.declared.types.fault.ConnectionError.TheVariants.{Io, SourceTooLarge}
 use Rattle.ftp_transport.specs.Told.{HasFailed, Told, after_end, after_read}
 use Rattle.ftp_calls.specs.declared.call.Call.{Call}
@@ -16,7 +16,7 @@ use Rattle.ftp_dialogue.specs.Coding.{Coding}
 use Rattle.ftp_dialogue.specs.Link.{Link}
 use Rattle.ftp_dialogue.specs.State.{SessionValue}
 use Rattle.ftp_session.specs.Handed.{Opens}
-use Rattle.ftp_session.specs.Saving.{Gave, Receives, Saved, SaveFails, Saves, StopsAt, WritesTo}
+use Rattle.ftp_session.specs.Saving.{Gave, Receives, SaveFails, Saves, StopsAt, WritesTo}
 use Rattle.ftp_transfer.specs.Mark.{End}
 use Rattle.ftp_transfer.specs.declared.direction.Direction.TheVariants.{Download}
 use Rattle.ftp_transfer.specs.Transfer.{TransferValue, with_told}
