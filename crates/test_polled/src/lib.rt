@@ -8,6 +8,8 @@ mod counted;
 #[cfg(test)]
 mod cuts;
 #[cfg(test)]
+mod dropped;
+#[cfg(test)]
 mod limits;
 #[cfg(test)]
 mod listings;

@@ -219,15 +219,20 @@ impl PassiveStreamBuilder<TokioConn> for BuildsNone {
 /// A client with such a builder.
 type Building = ImplAsyncFtpStream<TokioTransport, NoTlsConnector, Utf8Encoding, BuildsNone>;
 
-/// The numbers of the errors of the setting and of a download whose data connection such a builder is to make.
-fn building<R>(rt: &R, address: SocketAddr) -> Result<(u8, u8), Fail>
+/// The numbers of the errors of the setting, by either method, and of a download whose data connection such a builder is to
+/// make.
+fn building<R>(rt: &R, address: SocketAddr, sets: bool) -> Result<(u8, u8), Fail>
 where
     R: Net<Listener = TcpListener, Stream = TcpStream> + Wait + Clock + RandomSource + AllocGlobal,
 {
     let mut runtime = running(rt)?;
     let connect = Building::connect(rt, transport(&runtime)?, &[address]);
     let client = runtime.local().block_on(rt, connect)??;
-    let setting = client.set_passive_stream_builder(rt, BuildsNone);
+    let setting = if sets {
+        client.set_passive_stream_builder(rt, BuildsNone)
+    } else {
+        client.passive_stream_builder(rt, BuildsNone)
+    };
     let set = done(rt, &mut runtime, setting);
     let opening = client.retr_as_stream(rt, "a");
     drop(client);
@@ -236,12 +241,14 @@ where
 
 #[test]
 fn a_builders_error_is_answered_as_it_is(rt: HostRuntime) -> Result<(), Fail> {
-    let (listener, address) = listening(&rt)?;
     let replies = "220 ready\r\n227 on (127,0,0,1,4,0)\r\n";
-    let serving = thread::spawn(&rt, move || serve(rt.alloc(), &listener, replies))?;
-    let faults = building(&rt, address)?;
-    let received = serving.join(&rt)?;
-    // BadResponse
-    assert_eq!(rt; (faults, received.as_str()), ((0, 11), "PASV\r\n"));
+    for sets in [true, false] {
+        let (listener, address) = listening(&rt)?;
+        let serving = thread::spawn(&rt, move || serve(rt.alloc(), &listener, replies))?;
+        let faults = building(&rt, address, sets)?;
+        let received = serving.join(&rt)?;
+        // BadResponse
+        assert_eq!(rt; (faults, received.as_str()), ((0, 11), "PASV\r\n"));
+    }
     Ok(())
 }
