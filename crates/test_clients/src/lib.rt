@@ -31,3 +31,5 @@ mod server;
 mod settings;
 #[cfg(test)]
 mod strangers;
+#[cfg(test)]
+mod transfers;

@@ -22,4 +22,6 @@ mod settings;
 #[cfg(test)]
 mod surface;
 #[cfg(test)]
+mod transfers;
+#[cfg(test)]
 mod writers;
