@@ -16,7 +16,7 @@ use std::io::{ErrorKind, Read, Write};
 use std::net::{Net, SocketAddr, TcpListener, TcpStream};
 use std::sync::Wait;
 use std::test::Fail;
-use std::time::Clock;
+use std::time::{Clock, Duration};
 use std::{io, thread};
 
 /// A client that may be put under TLS, over sockets.
@@ -136,16 +136,23 @@ fn send_turned(server: &mut TcpStream, bytes: &[u8]) -> io::Result<()> {
     Ok(())
 }
 
+/// The next client, which is waited for five seconds at each read.
+fn accepted(listener: &TcpListener) -> io::Result<TcpStream> {
+    let (server, _address) = listener.accept()?;
+    server.set_read_timeout(Some(Duration::from_secs(5)))?;
+    Ok(server)
+}
+
 /// Greets the first client under TLS, and answers its first command; the second one sends nothing. What the two sent, in
 /// clear.
 fn serve(listener: &TcpListener) -> io::Result<([u8; 6], usize)> {
-    let (mut server, _address) = listener.accept()?;
+    let mut server = accepted(listener)?;
     send_turned(&mut server, b"220 under\r\n")?;
     let mut line = [0u8; 6];
     server.read_exact(&mut line)?;
     turn(&mut line);
     send_turned(&mut server, b"200 ok\r\n")?;
-    let (mut other, _address) = listener.accept()?;
+    let mut other = accepted(listener)?;
     Ok((line, other.read(&mut [0u8; 1])?))
 }
 
