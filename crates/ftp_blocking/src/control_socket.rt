@@ -43,6 +43,11 @@ impl<Tr: Network, K: Drop, E: Encoding, B: Drop> ControlSocket<'_, Tr, K, E, B> 
         session.get_ref()
     }
 
+    /// The transport, which makes the data connections, as [`Session::transport`] lends it.
+    pub fn transport(&self) -> &Tr {
+        self.session.transport()
+    }
+
     /// How many transfers were opened, and how they came to their end (RFC 959, section 3.2). Whenever the lock is held
     /// so, by any thread, each that was opened was finished, aborted or drained, or is the one that is owed.
     pub fn counts(&self) -> &Counts

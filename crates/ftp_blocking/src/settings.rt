@@ -38,8 +38,10 @@ impl<Tr: Network, K: Drop, E: Encoding, B: Drop> ImplFtpStream<Tr, K, E, B> {
 
     /// The client in the mode `Active`, which waits so long for a data connection.
     pub fn active_mode<R: Wait>(self, rt: &R, deadline: Duration) -> Self {
-        self.set_mode(rt, Mode::Active);
-        self.set_active_deadline(rt, deadline);
+        let mut session = self.session.lock(rt);
+        session.set_mode(Mode::Active);
+        session.set_active_deadline(deadline);
+        drop(session);
         self
     }
 

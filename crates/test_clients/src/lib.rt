@@ -10,6 +10,8 @@ mod clients;
 #[cfg(test)]
 mod failing;
 #[cfg(test)]
+mod files;
+#[cfg(test)]
 mod greetings;
 #[cfg(test)]
 mod limits;
@@ -22,6 +24,12 @@ mod rows;
 #[cfg(test)]
 mod scene;
 #[cfg(test)]
+mod secure;
+#[cfg(test)]
 mod server;
 #[cfg(test)]
+mod settings;
+#[cfg(test)]
 mod strangers;
+#[cfg(test)]
+mod transfers;

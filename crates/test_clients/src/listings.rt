@@ -1,36 +1,15 @@
 //! Listings of a blocking client over memory: as files, and as the lines of a stream.
 
-use crate::scene::{boxed, conn_with, greeted, number};
+use crate::scene::{MemoryClient, add_sent, boxed, client_of, number};
 use ftp_base::status::Status;
 use ftp_base::types::{FtpResult, Response};
-use ftp_blocking::{ImplFtpStream, TransferStream};
+use ftp_blocking::TransferStream;
 use ftp_list::Listing;
-use ftp_transport::{MemoryTransport, Supply};
+use ftp_transport::MemoryTransport;
 use std::alloc::Global;
 use std::sync::Wait;
 use std::test::Fail;
 use std::time::Clock;
-
-/// A client over memory.
-type MemoryClient = ImplFtpStream<MemoryTransport>;
-
-/// A client whose server sent these replies after its greeting, with one data connection, on which these bytes come.
-fn client_of(alloc: Global, replies: &str, data: &str) -> FtpResult<Box<MemoryClient>> {
-    let mut transport = MemoryTransport::new(alloc);
-    transport.supply(Supply::Connects(conn_with(alloc, data.as_bytes())?))?;
-    let mut conn = conn_with(alloc, b"220 r\r\n")?;
-    conn.feed(replies.as_bytes())?;
-    let session = greeted(alloc, transport, conn)?;
-    boxed(alloc, ImplFtpStream::new(alloc, Box::into_inner(session))?)
-}
-
-/// Adds what a client has sent.
-fn add_sent<R: Wait>(rt: &R, client: &MemoryClient, text: &mut String) -> Result<(), Fail> {
-    let control = client.get_ref(rt);
-    let sent = str::from_utf8(control.socket().sent()).unwrap_or("");
-    write!(text, "{sent}")?;
-    Ok(())
-}
 
 /// The files that a client lists, each with its size, or the number of an error; the number of what NOOP fails with
 /// afterwards; and what was sent.

@@ -1,9 +1,12 @@
-//! What the tests share: a connection over memory, a session that was greeted, and the numbers of errors.
+//! What the tests share: connections, sessions and clients over memory, and the numbers of errors.
 
 use ftp_base::types::FtpResult;
+use ftp_blocking::ImplFtpStream;
 use ftp_session::session::Session;
-use ftp_transport::{MemoryConn, MemoryTransport};
+use ftp_transport::{MemoryConn, MemoryTransport, Supply};
 use std::alloc::{AllocError, Global};
+use std::sync::Wait;
+use std::test::Fail;
 
 /// A session over memory.
 pub type MemorySession = Box<Session<MemoryTransport>>;
@@ -22,6 +25,27 @@ pub fn greeted(
     conn: MemoryConn,
 ) -> FtpResult<MemorySession> {
     boxed(alloc, Session::connect_with_stream(alloc, transport, conn)?)
+}
+
+/// A client over memory.
+pub type MemoryClient = ImplFtpStream<MemoryTransport>;
+
+/// A client whose server sent these replies after its greeting, with one data connection, on which these bytes come.
+pub fn client_of(alloc: Global, replies: &str, data: &str) -> FtpResult<Box<MemoryClient>> {
+    let mut transport = MemoryTransport::new(alloc);
+    transport.supply(Supply::Connects(conn_with(alloc, data.as_bytes())?))?;
+    let mut conn = conn_with(alloc, b"220 r\r\n")?;
+    conn.feed(replies.as_bytes())?;
+    let session = greeted(alloc, transport, conn)?;
+    boxed(alloc, ImplFtpStream::new(alloc, Box::into_inner(session))?)
+}
+
+/// Adds what a client has sent.
+pub fn add_sent<R: Wait>(rt: &R, client: &MemoryClient, text: &mut String) -> Result<(), Fail> {
+    let control = client.get_ref(rt);
+    let sent = str::from_utf8(control.socket().sent()).unwrap_or("");
+    write!(text, "{sent}")?;
+    Ok(())
 }
 
 /// The same value in a box.

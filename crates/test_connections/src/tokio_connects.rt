@@ -113,9 +113,38 @@ fn accept<R>(rt: &R, comes: bool, limit: u64) -> io::Result<(Came, Option<Socket
 where
     R: Net<Stream = TcpStream> + Wait + Clock + RandomSource + AllocGlobal,
 {
-    let mut runtime = running(rt)?;
+    let runtime = running(rt)?;
     let mut transport = TokioTransport::new(runtime.handle().reactor().clone()?);
-    let (listener, address) = listen(rt, &mut transport)?;
+    let listening = listen(rt, &mut transport)?;
+    accept_on(rt, runtime, (transport, listening), comes, limit)
+}
+
+/// The same of a listener that no transport made.
+fn accept_alone<R>(rt: &R) -> io::Result<(Came, Option<SocketAddr>)>
+where
+    R: Net<Stream = TcpStream> + Wait + Clock + RandomSource + AllocGlobal,
+{
+    let runtime = running(rt)?;
+    let transport = TokioTransport::new(runtime.handle().reactor().clone()?);
+    let address = SocketAddr::from(([127, 0, 0, 1], 0));
+    let listening = TokioListener::bind(rt, address, runtime.handle().reactor())?;
+    accept_on(rt, runtime, (transport, listening), true, 5000)
+}
+
+/// A transport, and a listener with its address.
+type Listening = (TokioTransport, (TokioListener, SocketAddr));
+
+/// The same on this listener.
+fn accept_on<R>(
+    rt: &R,
+    mut runtime: Runtime,
+    (transport, (listener, address)): Listening,
+    comes: bool,
+    limit: u64,
+) -> io::Result<(Came, Option<SocketAddr>)>
+where
+    R: Net<Stream = TcpStream> + Wait + Clock + RandomSource + AllocGlobal,
+{
     let peer = if comes {
         Some(TcpStream::connect(rt, address)?)
     } else {
@@ -144,5 +173,12 @@ fn who_comes_is_accepted_and_nobody_comes_before_the_deadline(rt: HostRuntime) -
         (came.ok(), nobody, late.ok()),
         (from, Err(ConnectionError::TimedOut), late_from)
     );
+    Ok(())
+}
+
+#[test]
+fn who_comes_to_a_listener_of_no_transport_is_accepted(rt: HostRuntime) -> Result<(), Fail> {
+    let (came, from) = accept_alone(&rt)?;
+    assert_eq!(rt; (came.ok(), from.is_some()), (from, true));
     Ok(())
 }

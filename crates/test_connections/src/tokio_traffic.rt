@@ -5,7 +5,7 @@ use ftp_tokio::TokioConn;
 use ftp_transport::{PollConn, Tells};
 use futures::task::Poll;
 use std::io::{ErrorKind, Read};
-use std::net::TcpStream;
+use std::net::{SocketAddr, TcpStream};
 use std::test::Fail;
 use test_loopback::{pair, running};
 
@@ -63,6 +63,11 @@ fn closed(conn: &mut TokioConn) -> (Result<Poll<usize>, ErrorKind>, [Option<Erro
     (written, [close, after, conn.peer_addr().err()])
 }
 
+/// The address of a connection's socket, where it has one.
+fn socket_addr(conn: &TokioConn) -> Option<SocketAddr> {
+    conn.get_ref().and_then(|socket| socket.local_addr().ok())
+}
+
 /// Whether these bytes and no other come on a socket to its end.
 fn received(peer: &mut TcpStream, due: &[u8; 4]) -> bool {
     let mut came = [0u8; 4];
@@ -77,7 +82,9 @@ fn a_write_reaches_the_peer_and_a_closed_connection_is_not_connected(
     let (mut conn, mut peer) = pair(&rt, &runtime, b"")?;
     let ends = (conn.local_addr().ok(), conn.peer_addr().ok());
     let due = (peer.peer_addr().ok(), peer.local_addr().ok());
+    let open = socket_addr(&conn);
     let (written, faults) = closed(&mut conn);
+    let sockets = (open, socket_addr(&conn));
     let reached = received(&mut peer, b"ping");
     drop(peer);
     drop(conn);
@@ -85,6 +92,7 @@ fn a_write_reaches_the_peer_and_a_closed_connection_is_not_connected(
     let gone = Some(ErrorKind::NotConnected);
     let closes = (Ok(Poll::Ready(4)), [None, gone, gone]);
     assert_eq!(rt; (ends, reached, (written, faults)), (due, true, closes));
+    assert_eq!(rt; sockets, (due.0, None));
     Ok(())
 }
 

@@ -8,6 +8,8 @@ mod counted;
 #[cfg(test)]
 mod cuts;
 #[cfg(test)]
+mod dropped;
+#[cfg(test)]
 mod limits;
 #[cfg(test)]
 mod listings;
@@ -19,5 +21,7 @@ mod scene;
 mod settings;
 #[cfg(test)]
 mod surface;
+#[cfg(test)]
+mod transfers;
 #[cfg(test)]
 mod writers;

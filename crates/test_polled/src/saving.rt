@@ -3,7 +3,7 @@
 use crate::clients::write_passive;
 use crate::scene::{Scene, answered, done, greeted, next};
 use ftp_base::types::{FileType, FtpResult};
-use ftp_polled::AllowStdIo;
+use ftp_polled::{AllowStdIo, Sink};
 use ftp_session::session::{Failure, NoProgress, Progress};
 use std::alloc::AllocGlobal;
 use std::io::{ErrorKind, Read, Write};
@@ -42,13 +42,24 @@ where
     Ok(scene)
 }
 
-/// A download to a `Vec`: how many bytes it returns and reports, and the number of the error of the command after it.
-fn saved<R>(rt: &R, scene: &mut Scene, bytes: &mut Vec<u8>) -> Result<(u64, u64, u8), Fail>
+/// A download to a `Vec`, by `write_to` or by a sink that reads it: how many bytes it returns and reports, and the number of
+/// the error of the command after it.
+fn saved<R>(
+    rt: &R,
+    scene: &mut Scene,
+    bytes: &mut Vec<u8>,
+    by_sink: bool,
+) -> Result<(u64, u64, u8), Fail>
 where
     R: Net + Wait + Clock + RandomSource + AllocGlobal,
 {
     let mut told = Told(0);
-    let write = scene.client.write_to(rt, "a", bytes, &mut told);
+    let write = if by_sink {
+        let sink = Sink::new(rt.alloc(), bytes, &mut told);
+        scene.client.retr(rt, "a", sink)
+    } else {
+        scene.client.write_to(rt, "a", bytes, &mut told)
+    };
     let count: FtpResult<u64> = scene.runtime.local().block_on(rt, write)?;
     let answer = next(rt, scene);
     Ok((count?, told.0, answer))
@@ -56,17 +67,19 @@ where
 
 #[test]
 fn a_download_goes_to_a_writer_and_tells_how_far_it_has_come(rt: HostRuntime) -> Result<(), Fail> {
-    let (listener, address) = listening(&rt)?;
-    let giving = thread::spawn(&rt, move || give(&listener, b"hello"))?;
-    let mut scene = agreed(&rt, address.port())?;
-    let mut bytes = Vec::new(rt.alloc());
-    let came = saved(&rt, &mut scene, &mut bytes)?;
-    drop(scene);
-    let gave = giving.join(&rt).is_ok();
-    assert_eq!(rt;
-        (bytes.as_slice(), came, gave),
-        (&b"hello"[..], (5, 5, 0), true)
-    );
+    for by_sink in [false, true] {
+        let (listener, address) = listening(&rt)?;
+        let giving = thread::spawn(&rt, move || give(&listener, b"hello"))?;
+        let mut scene = agreed(&rt, address.port())?;
+        let mut bytes = Vec::new(rt.alloc());
+        let came = saved(&rt, &mut scene, &mut bytes, by_sink)?;
+        drop(scene);
+        let gave = giving.join(&rt).is_ok();
+        assert_eq!(rt;
+            (bytes.as_slice(), came, gave),
+            (&b"hello"[..], (5, 5, 0), true)
+        );
+    }
     Ok(())
 }
 

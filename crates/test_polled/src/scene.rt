@@ -8,7 +8,7 @@ use ftp_tokio::TokioTransport;
 use futures::Future;
 use futures::future::poll_immediate;
 use std::alloc::AllocGlobal;
-use std::io::{Read, Write};
+use std::io::{ErrorKind, Read, Write};
 use std::net::{Net, TcpListener, TcpStream};
 use std::random::RandomSource;
 use std::sync::Wait;
@@ -191,5 +191,16 @@ pub fn came(socket: &mut TcpStream, due: &[u8]) -> bool {
     match socket.read(&mut buffer) {
         Ok(count) => buffer.get(..count) == Some(due),
         Err(_error) => false,
+    }
+}
+
+/// Whether nothing has come on a socket, which is open; it doesn't wait.
+pub fn is_silent(socket: &mut TcpStream) -> bool {
+    if socket.set_nonblocking(true).is_err() {
+        return false;
+    }
+    match socket.read(&mut [0u8; 1]) {
+        Ok(_count) => false,
+        Err(error) => error.kind() == ErrorKind::WouldBlock,
     }
 }

@@ -5,7 +5,7 @@ use crate::scene::{Client, Scene, client_of, connects, done, greeted, noop, send
 use ftp_base::encoding::Utf8Encoding;
 use ftp_base::types::{FtpError, FtpResult};
 use ftp_polled::ImplAsyncFtpStream;
-use ftp_session::session::NoTlsConnector;
+use ftp_session::session::{Failure, NoTlsConnector};
 use ftp_tokio::{TokioConn, TokioTransport};
 use ftp_transport::PassiveStreamBuilder;
 use std::alloc::{AllocGlobal, Global};
@@ -49,9 +49,12 @@ fn a_client_connects_to_the_first_that_listens(rt: HostRuntime) -> Result<(), Fa
     Ok(())
 }
 
-/// The numbers of the errors of two calls of a client that connects to this address, and whether it has failed after
-/// each.
-fn cut<R>(rt: &R, address: SocketAddr) -> Result<[(u8, u8); 2], Fail>
+/// The number of the error of NOOP; 1 where the client has failed then, and 0 where it hasn't; and the same and where it
+/// failed, as its control connection tells it.
+type Seen = (u8, u8, Option<(bool, Option<Failure>)>);
+
+/// What two calls of a client result in that connects to this address.
+fn cut<R>(rt: &R, address: SocketAddr) -> Result<[Seen; 2], Fail>
 where
     R: Net<Listener = TcpListener, Stream = TcpStream> + Wait + Clock + RandomSource + AllocGlobal,
 {
@@ -63,13 +66,25 @@ where
     Ok([refused, cut])
 }
 
-/// The number of the error of NOOP, and whether the client has failed then.
-fn seen<R>(rt: &R, runtime: &mut Runtime, client: &Client) -> (u8, u8)
+/// What NOOP results in.
+fn seen<R>(rt: &R, runtime: &mut Runtime, client: &Client) -> Seen
 where
     R: Net + Wait + Clock + RandomSource + AllocGlobal,
 {
     let answer = noop(rt, runtime, client);
-    (answer, has_failed(rt, runtime, client))
+    let failed = has_failed(rt, runtime, client);
+    (answer, failed, lent(rt, runtime, client))
+}
+
+/// Whether the client has failed, and where, as its control connection tells it.
+fn lent<R>(rt: &R, runtime: &mut Runtime, client: &Client) -> Option<(bool, Option<Failure>)>
+where
+    R: Wait + Clock + RandomSource + AllocGlobal,
+{
+    match runtime.local().block_on(rt, client.get_ref()) {
+        Ok(Ok(control)) => Some((control.failed(), control.last_failure())),
+        _ => None,
+    }
 }
 
 /// 1 where the client has failed, 0 where it hasn't, and 2 where the call fails.
@@ -100,7 +115,9 @@ fn a_client_tells_that_it_has_failed(rt: HostRuntime) -> Result<(), Fail> {
     let calls = cut(&rt, address)?;
     let served = serving.join(&rt).is_ok();
     // `UnexpectedResponse` is 10, `UnexpectedEof` 2
-    assert_eq!(rt; (calls, served), ([(10, 0), (2, 1)], true));
+    let refused = (10, 0, Some((false, None)));
+    let cut = (2, 1, Some((true, Some(Failure::Control))));
+    assert_eq!(rt; (calls, served), ([refused, cut], true));
     Ok(())
 }
 
@@ -219,15 +236,20 @@ impl PassiveStreamBuilder<TokioConn> for BuildsNone {
 /// A client with such a builder.
 type Building = ImplAsyncFtpStream<TokioTransport, NoTlsConnector, Utf8Encoding, BuildsNone>;
 
-/// The numbers of the errors of the setting and of a download whose data connection such a builder is to make.
-fn building<R>(rt: &R, address: SocketAddr) -> Result<(u8, u8), Fail>
+/// The numbers of the errors of the setting, by either method, and of a download whose data connection such a builder is to
+/// make.
+fn building<R>(rt: &R, address: SocketAddr, sets: bool) -> Result<(u8, u8), Fail>
 where
     R: Net<Listener = TcpListener, Stream = TcpStream> + Wait + Clock + RandomSource + AllocGlobal,
 {
     let mut runtime = running(rt)?;
     let connect = Building::connect(rt, transport(&runtime)?, &[address]);
     let client = runtime.local().block_on(rt, connect)??;
-    let setting = client.set_passive_stream_builder(rt, BuildsNone);
+    let setting = if sets {
+        client.set_passive_stream_builder(rt, BuildsNone)
+    } else {
+        client.passive_stream_builder(rt, BuildsNone)
+    };
     let set = done(rt, &mut runtime, setting);
     let opening = client.retr_as_stream(rt, "a");
     drop(client);
@@ -236,12 +258,14 @@ where
 
 #[test]
 fn a_builders_error_is_answered_as_it_is(rt: HostRuntime) -> Result<(), Fail> {
-    let (listener, address) = listening(&rt)?;
     let replies = "220 ready\r\n227 on (127,0,0,1,4,0)\r\n";
-    let serving = thread::spawn(&rt, move || serve(rt.alloc(), &listener, replies))?;
-    let faults = building(&rt, address)?;
-    let received = serving.join(&rt)?;
-    // BadResponse
-    assert_eq!(rt; (faults, received.as_str()), ((0, 11), "PASV\r\n"));
+    for sets in [true, false] {
+        let (listener, address) = listening(&rt)?;
+        let serving = thread::spawn(&rt, move || serve(rt.alloc(), &listener, replies))?;
+        let faults = building(&rt, address, sets)?;
+        let received = serving.join(&rt)?;
+        // BadResponse
+        assert_eq!(rt; (faults, received.as_str()), ((0, 11), "PASV\r\n"));
+    }
     Ok(())
 }

@@ -2,8 +2,6 @@
 //!
 //! What the failing call was decides what is due: the result, and what it leaves.
 
-mod conn;
-mod device;
+mod rows;
 mod runs;
 mod scene;
-mod transport;

@@ -35,4 +35,6 @@ mod splits;
 #[cfg(test)]
 mod tables;
 #[cfg(test)]
+mod tasks;
+#[cfg(test)]
 mod transfers;

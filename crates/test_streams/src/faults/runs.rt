@@ -1,45 +1,49 @@
 //! Whole files in which the first call fails, the second, and so on until none does.
 
-use crate::faults::device::{Device, Place};
-use crate::faults::scene::{FailingSession, Run, number, session_for};
+use crate::faults::scene::{Run, made, number, sent, session_for};
 use ftp_base::types::FtpResult;
 use ftp_session::session::Owed;
 use std::alloc::Global;
+use std::io::ErrorKind;
 use std::test::Fail;
+use test_failing::{Device, Place};
 
 /// More calls than a run makes.
 const MOST: u32 = 500;
+
+/// What the server sends to a client in passive mode, and then to `NOOP`.
+const PASSIVE: &[u8] = b"227 x (192,0,2,7,4,0).\r\n150 b\r\n226 d\r\n200 ok\r\n";
+
+/// What it sends to one in active mode.
+const ACTIVE: &[u8] = b"200 p\r\n150 b\r\n226 d\r\n200 ok\r\n";
+
+/// The kind by which the call of this number fails.
+fn kind_of(nth: u32) -> ErrorKind {
+    match nth % 4 {
+        0 => ErrorKind::BrokenPipe,
+        1 => ErrorKind::ConnectionReset,
+        2 => ErrorKind::TimedOut,
+        _ => ErrorKind::PermissionDenied,
+    }
+}
 
 /// What a run results in: the number of its error, whether the session has failed, whether a transfer is live and
 /// whether one was left; the number of the error of a `NOOP` after it, and whether that sent anything.
 type Came = (u8, bool, bool, bool, u8, bool);
 
-/// How many bytes were sent on the control connection.
-fn sent(session: &FailingSession<'_>) -> usize {
-    session.get_ref().conn.sent().len()
-}
-
-/// Makes the call of a run.
-fn made(alloc: Global, session: &mut FailingSession<'_>, run: Run) -> u8 {
-    if run.uploads {
-        let mut source = &b"a\nb"[..];
-        number(session.put_file(alloc, &(), "f", &mut source))
-    } else {
-        number(session.retr_as_buffer(alloc, &(), "f"))
-    }
-}
-
 /// Makes a run in which the call of this number fails.
 fn came(alloc: Global, device: &Device, run: Run, nth: u32) -> FtpResult<Came> {
-    let mut session = session_for(alloc, device, run)?;
-    device.fail_nth(nth);
-    let answer = made(alloc, &mut session, run);
-    device.fail_nth(0);
+    let replies = if run.active { ACTIVE } else { PASSIVE };
+    let mut session = session_for(alloc, device, run.active, replies)?;
+    let kind = kind_of(nth);
+    device.fail_nth(nth, kind);
+    let answer = made(alloc, &mut session, run.uploads, kind);
+    device.fail_nth(0, kind);
     let failed = session.failed();
     let live = matches!(session.counts().owed(), Owed::Live(_));
     let left = matches!(session.counts().owed(), Owed::Left(_));
     let before = sent(&session);
-    let next = number(session.noop(alloc));
+    let next = number(session.noop(alloc), kind);
     let sends = sent(&session) > before;
     Ok((answer, failed, live, left, next, sends))
 }
@@ -95,7 +99,8 @@ fn runs(alloc: Global, run: Run, write_at_most: usize) -> FtpResult<(u32, bool, 
         close: false,
     };
     for nth in 1..MOST {
-        let device = Device::new(write_at_most);
+        let device = Device::new();
+        device.write_at_most(write_at_most);
         let came = came(alloc, &device, run, nth)?;
         let place = device.failed_at();
         if !is_due(place, run.uploads, came) {

@@ -1,16 +1,16 @@
-//! A session whose connections and transport may fail.
+//! A session over memory whose connections and transport may fail.
 
-use crate::faults::conn::FailingConn;
-use crate::faults::device::{Device, KIND};
-use crate::faults::transport::FailingTransport;
+use crate::scene::conn_with;
 use ftp_base::types::{ConnectionError, FtpError, FtpResult, Mode};
 use ftp_session::session::Session;
-use ftp_transport::MemoryConn;
+use ftp_transport::{MemoryConn, MemoryTransport, Supply};
 use std::alloc::{AllocError, Global};
-use std::net::{Ipv4Addr, SocketAddr};
+use std::io::ErrorKind;
+use std::net::SocketAddr;
+use test_failing::{Device, FailingConn, FailingTransport};
 
 /// A session.
-pub type FailingSession<'d> = Session<FailingTransport<'d>>;
+pub type FailingSession<'d> = Session<FailingTransport<'d, MemoryTransport>>;
 
 /// Which run is made: an upload or a download, in active mode or passive.
 #[derive(Clone, Copy)]
@@ -19,51 +19,63 @@ pub struct Run {
     pub active: bool,
 }
 
-/// What the server sends to a client in passive mode, and then to `NOOP`.
-const PASSIVE: &[u8] = b"227 x (192,0,2,7,4,0).\r\n150 b\r\n226 d\r\n200 ok\r\n";
-
-/// What it sends to one in active mode.
-const ACTIVE: &[u8] = b"200 p\r\n150 b\r\n226 d\r\n200 ok\r\n";
-
-/// A connection over memory on which these bytes came.
-fn conn_with(alloc: Global, bytes: &[u8]) -> Result<Box<MemoryConn>, AllocError> {
-    let mut conn = MemoryConn::new(alloc);
-    conn.feed(bytes)?;
-    Ok(Box::new(alloc, conn)?)
+/// The server, and the peer of the control connection.
+fn server() -> SocketAddr {
+    SocketAddr::from(([192, 0, 2, 7], 21))
 }
 
-/// A session for this run, of which nothing was sent yet.
+/// A transport that has one data connection, which brings five bytes.
+fn one_with(alloc: Global, active: bool) -> Result<MemoryTransport, AllocError> {
+    let mut transport = MemoryTransport::new(alloc);
+    let conn = conn_with(alloc, b"hello")?;
+    let supply = if active {
+        Supply::Peer(server(), conn)
+    } else {
+        Supply::Connects(conn)
+    };
+    transport.supply(supply)?;
+    Ok(transport)
+}
+
+/// A session of which nothing was sent yet, whose server sends this. Reads give a byte at a time.
 pub fn session_for<'d>(
     alloc: Global,
     device: &'d Device,
-    run: Run,
+    active: bool,
+    replies: &[u8],
 ) -> FtpResult<Box<FailingSession<'d>>> {
-    let input = if run.active { ACTIVE } else { PASSIVE };
-    let control = FailingConn {
-        conn: conn_with(alloc, input)?,
-        device,
-        controls: true,
-    };
-    let mut data = Vec::new(alloc);
-    data.push(conn_with(alloc, b"hello")?)?;
-    let transport = FailingTransport {
-        data,
-        peer: SocketAddr::from((Ipv4Addr::new(0, 0, 0, 0), 20)),
-        device,
-    };
+    device.read_at_most(1);
+    let mut conn = MemoryConn::between(alloc, SocketAddr::from(([192, 0, 2, 1], 50_000)), server());
+    conn.feed(replies)?;
+    let transport = FailingTransport::new(alloc, one_with(alloc, active)?, device);
+    let control = FailingConn::control(conn, device);
     let mut session = Box::new(alloc, Session::new(alloc, transport, control)?)?;
-    if run.active {
+    if active {
         session.set_mode(Mode::Active);
     }
     Ok(session)
 }
 
-/// The number of an error; 0 where there is none, and 100 for a failure of another kind than that of the call that
-/// failed.
-pub fn number<T: Drop>(answer: FtpResult<T>) -> u8 {
+/// The number of an error; 0 where there is none, and 100 for an error of input or output that isn't of this kind.
+pub fn number<T: Drop>(answer: FtpResult<T>, due: ErrorKind) -> u8 {
     match &answer {
         Ok(_) => 0,
-        Err(FtpError::ConnectionError(ConnectionError::Io(kind))) if *kind != KIND => 100,
+        Err(FtpError::ConnectionError(ConnectionError::Io(kind))) if *kind != due => 100,
         Err(fault) => fault.number(),
+    }
+}
+
+/// How many bytes were sent on the control connection.
+pub fn sent(session: &FailingSession<'_>) -> usize {
+    session.get_ref().get_ref().sent().len()
+}
+
+/// Makes the call of a run: the number of its error, where that is due to be of this kind.
+pub fn made(alloc: Global, session: &mut FailingSession<'_>, uploads: bool, kind: ErrorKind) -> u8 {
+    if uploads {
+        let mut source = &b"a\nb"[..];
+        number(session.put_file(alloc, &(), "f", &mut source), kind)
+    } else {
+        number(session.retr_as_buffer(alloc, &(), "f"), kind)
     }
 }

@@ -1,7 +1,7 @@
 //! A transfer that one thread finishes while another makes a command.
 
-use crate::scene::{Client, Scene, Tally, Transfer, number, opened, seen};
-use crate::turns::meets;
+use crate::threads::scene::{Client, Scene, Tally, Transfer, number, opened, seen};
+use crate::threads::turns::meets;
 use ftp_base::types::{FtpError, FtpResult};
 use std::sync::Wait;
 use std::sync::atomic::AtomicU32;

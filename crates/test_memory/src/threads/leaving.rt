@@ -1,7 +1,7 @@
 //! Transfers that one thread leaves while another holds their client's lock.
 
-use crate::scene::{Client, Scene, Tally, Transfer, number, opened, seen};
-use crate::turns::Turnstile;
+use crate::threads::scene::{Client, Scene, Tally, Transfer, number, opened, seen};
+use crate::threads::turns::Turnstile;
 use ftp_blocking::hold;
 use std::sync::Wait;
 use std::test::Fail;

@@ -1,28 +1,27 @@
-//! Renames of two threads on one client, blocking and polled.
+//! Renames of two threads on one client, blocking and polled: whether the two lines of each stay together.
+//!
+//! There are 1,000 rounds, in twelve parts of about the same time, each of which is a test. In round k each text is encoded
+//! after k yields.
 
 ghost use Rattle.std.specs.Prelude.{Ok};
 ghost use Rattle.std.specs.Str.Lossy.{utf8_lossy};
 
-use crate::scene::{conn_with, number};
-use crate::turns::comes;
+mod blocking;
+mod polled;
+
+use crate::threads::scene::conn_with;
+use crate::threads::turns::comes;
 use ftp_base::encoding::{EncodeError, Encoding, Utf8Encoding};
 use ftp_base::types::FtpResult;
-use ftp_blocking::ImplFtpStream;
-use ftp_polled::ImplAsyncFtpStream;
 use ftp_session::session::{NoTlsConnector, Session};
 use ftp_transport::{MemoryConn, MemoryTransport};
-use futures::executor::block_on;
 use std::alloc::{AllocError, Global};
-use std::random::RandomSource;
 use std::sync::atomic::Ordering::SeqCst;
 use std::sync::atomic::{AtomicBool, AtomicU32};
 use std::sync::{Arc, Wait};
 use std::test::Fail;
 use std::thread;
 use std::thread::{Threads, yield_now};
-
-/// How often the two renames are made.
-const ROUNDS: u32 = 1000;
 
 /// What an encoding shares with the threads: whether the first rename has begun, and how often a call yields.
 #[derive(Drop)]
@@ -65,24 +64,22 @@ impl Encoding for Slow {
 /// A session over memory that may be encoded slowly.
 type SlowSession = Session<MemoryTransport, NoTlsConnector, Slow>;
 
-/// A blocking client of such a session.
-type Client = ImplFtpStream<MemoryTransport, NoTlsConnector, Slow>;
+/// The first of some rounds, and the one after the last.
+type Rounds = (u32, u32);
 
-/// A polled one.
-type PolledClient = ImplAsyncFtpStream<MemoryTransport, NoTlsConnector, Slow>;
-
-/// A connection whose server accepts every rename of all rounds.
-fn accepting(alloc: Global) -> Result<MemoryConn, AllocError> {
+/// A connection whose server accepts both renames of each of these rounds.
+fn accepting(alloc: Global, (first, end): Rounds) -> Result<MemoryConn, AllocError> {
     let mut conn = conn_with(alloc, b"220 r\r\n", b"")?;
-    for _ in 0..ROUNDS * 2 {
-        conn.feed(b"350 ok\r\n250 ok\r\n")?;
+    for _ in first..end {
+        conn.feed(b"350 ok\r\n250 ok\r\n350 ok\r\n250 ok\r\n")?;
     }
     Ok(conn)
 }
 
 /// A session whose greeting was read.
-fn greeted(alloc: Global) -> FtpResult<SlowSession> {
-    Session::connect_with_stream(alloc, MemoryTransport::new(alloc), accepting(alloc)?)
+fn greeted(alloc: Global, rounds: Rounds) -> FtpResult<SlowSession> {
+    let conn = accepting(alloc, rounds)?;
+    Session::connect_with_stream(alloc, MemoryTransport::new(alloc), conn)
 }
 
 /// A pace that hasn't begun.
@@ -100,21 +97,6 @@ trait Renames<R>: Sync {
     fn renames(&self, rt: &R, from: &str, to: &str) -> u8;
 }
 
-impl<R: Wait + AllocGlobal> Renames<R> for Client {
-    fn renames(&self, rt: &R, from: &str, to: &str) -> u8 {
-        number(self.rename(rt, from, to))
-    }
-}
-
-impl<R: Wait + RandomSource + AllocGlobal> Renames<R> for PolledClient {
-    fn renames(&self, rt: &R, from: &str, to: &str) -> u8 {
-        match block_on(rt, self.rename(rt, from, to)) {
-            Ok(answer) => number(answer),
-            Err(_error) => 255,
-        }
-    }
-}
-
 /// Renames once the other thread's rename has begun; 255 where that doesn't begin.
 fn follows<R, C: Renames<R>>(rt: &R, client: &C, pace: &Pace) -> u8 {
     if comes(&pace.begun) {
@@ -124,14 +106,16 @@ fn follows<R, C: Renames<R>>(rt: &R, client: &C, pace: &Pace) -> u8 {
     }
 }
 
-/// Two threads rename in all rounds, the second once the first has begun; how many rounds there were before one had an
-/// error.
-fn rounds<R, C>(rt: &R, client: &C, pace: &Pace) -> u32
+/// Two threads rename in each of these rounds, the second once the first has begun; how many rounds there were before one had
+/// an error.
+fn play<R, C>(rt: &R, client: &C, pace: &Pace, rounds: Rounds) -> usize
 where
     R: Wait + Threads + Sync + AllocGlobal,
     C: Renames<R>,
 {
-    for round in 0..ROUNDS {
+    let mut count = 0usize;
+    let (first, end) = rounds;
+    for round in first..end {
         pace.begun.store(false, SeqCst);
         pace.yields.store(round, SeqCst);
         let numbers = thread::join(
@@ -140,10 +124,11 @@ where
             || follows(rt, client, pace),
         );
         if numbers != (0, 0) {
-            return round;
+            return count;
         }
+        count = count.saturating_add(1);
     }
-    ROUNDS
+    count
 }
 
 /// The lines of a round, in their order.
@@ -160,30 +145,8 @@ fn in_order(conn: &MemoryConn) -> (usize, usize) {
     (rounds, conn.sent().len())
 }
 
-#[test]
-fn a_rename_of_another_thread_comes_after_both_lines(rt: HostRuntime) -> Result<(), Fail> {
-    let pace = paced(rt.alloc())?;
-    let client = Box::new(rt.alloc(), Client::new(rt.alloc(), greeted(rt.alloc())?)?)?;
-    let set = number(client.set_encoding(&rt, Slow(Arc::try_clone(&pace)?)));
-    let rounds = rounds(&rt, &*client, &pace);
-    let control = client.get_ref(&rt);
-    let sent = in_order(control.socket());
-    drop(control);
-    assert_eq!(rt; (set, rounds, sent), (0, 1000, (1000, 32_000)));
-    Ok(())
-}
-
-#[test]
-fn a_polled_rename_of_another_thread_comes_after_both_lines(rt: HostRuntime) -> Result<(), Fail> {
-    let pace = paced(rt.alloc())?;
-    let client = PolledClient::new(rt.alloc(), greeted(rt.alloc())?)?;
-    let client = Box::new(rt.alloc(), client)?;
-    let setting = client.set_encoding(&rt, Slow(Arc::try_clone(&pace)?));
-    let set = number(block_on(&rt, setting)?);
-    let rounds = rounds(&rt, &*client, &pace);
-    let control = block_on(&rt, client.get_ref())??;
-    let sent = in_order(control.socket());
-    drop(control);
-    assert_eq!(rt; (set, rounds, sent), (0, 1000, (1000, 32_000)));
-    Ok(())
+/// What is due of so many rounds: the number of the error with which the encoding was set, how many rounds had no error, in
+/// how many the lines stood in their order, and how many bytes were sent.
+fn due(rounds: usize) -> (u8, usize, (usize, usize)) {
+    (0, rounds, (rounds, rounds.saturating_mul(32)))
 }

@@ -1,7 +1,7 @@
 //! Polled transfers that one thread leaves, or whose end it drops, while another holds their client's lock.
 
-use crate::scene::{OPENING, conn_with, number, transport};
-use crate::turns::Turnstile;
+use crate::threads::scene::{OPENING, conn_with, number, transport};
+use crate::threads::turns::Turnstile;
 use ftp_polled::{ImplAsyncFtpStream, TransferStream};
 use ftp_session::session::Session;
 use ftp_transport::MemoryTransport;
