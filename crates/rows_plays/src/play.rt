@@ -177,7 +177,8 @@ impl Play {
 
     /// All bytes come, and they end.
     fn add_all(&mut self, alloc: Global) -> Result<(), RowError> {
-        self.push(Event::Feed(Bytes::from_slice(alloc, &self.input)?))?;
+        let input = Bytes::from_slice(alloc, &self.input)?;
+        self.push(Event::Feed(input))?;
         self.push(Event::End)
     }
 
