@@ -11,23 +11,18 @@ mod mirror;
 mod polled;
 mod put;
 mod secure;
-mod serving;
 
-use std::alloc::AllocError;
-use std::net::TcpListener;
+use own_server::OwnServer;
+use std::env;
 use std::process::ExitCode;
 use std::random::RandomSource;
 use std::rt::Env;
 use std::sync::Wait;
-use std::thread::{JoinHandle, Threads};
-use std::{env, io, thread};
+use std::thread::Threads;
 use suppaftp::{FtpError, FtpResult, Host};
 
 /// How many clients the programs are.
 const CLIENTS: usize = 8;
-
-/// A thread that serves a client.
-type Serving = JoinHandle<io::Result<()>>;
 
 fn main(rt: HostRuntime) -> ExitCode {
     match run_words(&rt) {
@@ -85,27 +80,10 @@ fn run_all<R>(rt: &R) -> FtpResult<bool>
 where
     R: Host + Wait + Threads + RandomSource + Print + Eprint,
 {
-    let listener = TcpListener::bind(rt, "127.0.0.1:0")?;
-    let address = format!(in rt.alloc(); "{}", listener.local_addr()?)?;
-    let mut servers = Vec::new(rt.alloc());
-    for _ in 0..CLIENTS {
-        servers.push(started(rt, listener.try_clone()?)?)?;
-    }
+    let server = OwnServer::start(rt, CLIENTS)?;
     for name in ["fetch", "put", "list", "mirror", "polled", "secure"] {
-        run(rt, name, address.as_str())?;
+        run(rt, name, server.address())?;
     }
-    for server in servers {
-        server.join(rt)?;
-    }
+    server.join(rt)?;
     Ok(true)
-}
-
-/// A thread that serves the next client.
-fn started<R: Host + Threads>(rt: &R, listener: TcpListener) -> FtpResult<Serving> {
-    let alloc = rt.alloc();
-    let data = TcpListener::bind(rt, "127.0.0.1:0")?;
-    match thread::spawn(rt, move || serving::serve(alloc, &listener, data)) {
-        Ok(server) => Ok(server),
-        Err(error) => Err(AllocError::from(error).into()),
-    }
 }

@@ -1,6 +1,7 @@
 //! Downloads a file.
 #![tactic(auto)]
 
+use own_server::OwnServer;
 use std::process::ExitCode;
 use std::sync::Wait;
 use suppaftp::{FileType, FtpError, FtpResult, FtpStream, Host, Progress};
@@ -27,7 +28,10 @@ fn download<R: Host + Wait>(rt: &R, address: &str, name: &str) -> FtpResult<Vec<
 }
 
 fn main(rt: HostRuntime) -> ExitCode {
-    match download(&rt, "127.0.0.1:21", "two.txt") {
+    let Ok(server) = OwnServer::start(&rt, 1) else {
+        return ExitCode::from(2);
+    };
+    match download(&rt, server.address(), "two.txt") {
         Ok(bytes) => {
             let _ = println!(rt; "two.txt: {} bytes", bytes.len());
             ExitCode::SUCCESS

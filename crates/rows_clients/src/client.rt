@@ -7,8 +7,8 @@ use ftp_transfer::mark::Left;
 use ftp_transport::MemoryTransport;
 use rows_plays::{
     Held, Named, NamedSession, Opening, Play, RowBuilder, RowState, Transfers, boxed, bytes,
-    features, greeted, had, lines, made_by_method, optional, recorded, reply, size, text, texts_of,
-    time, unit,
+    counted, features, greeted, had, lines, made_by_method, optional, recorded, reply, size, text,
+    texts_of, time, unit,
 };
 use rows_text::RowError;
 use std::alloc::{AllocError, Global};
@@ -235,7 +235,11 @@ fn stands<R: Wait + AllocGlobal>(
     client: &Client,
     answers: &[Answer],
 ) -> Result<RowState, RowError> {
-    let (sent, taken) = traffic(rt, client)?;
+    let Shown {
+        sent,
+        taken,
+        counts,
+    } = traffic(rt, client)?;
     Ok(RowState {
         asked: Vec::new(rt.alloc()),
         uploaded: Vec::new(rt.alloc()),
@@ -244,6 +248,7 @@ fn stands<R: Wait + AllocGlobal>(
         taken,
         welcome: had(client.get_welcome_msg(rt))?,
         failed: has_failed(client.noop(rt)),
+        counts,
     })
 }
 
@@ -254,10 +259,21 @@ fn has_failed(answer: FtpResult<()>) -> bool {
     has_failed
 }
 
-/// What was sent, and how many bytes the replies have consumed.
-fn traffic<R: Wait + AllocGlobal>(rt: &R, client: &Client) -> Result<(Vec<u8>, usize), AllocError> {
+/// What a control connection shows: what was sent, how many bytes the replies have consumed, and its transfers.
+#[derive(Drop)]
+struct Shown {
+    sent: Vec<u8>,
+    taken: usize,
+    counts: String,
+}
+
+/// What a client's control connection shows.
+fn traffic<R: Wait + AllocGlobal>(rt: &R, client: &Client) -> Result<Shown, AllocError> {
     let control = client.get_ref(rt);
     let conn = control.socket();
-    let taken = conn.received().saturating_sub(control.untaken());
-    Ok((Vec::from_slice(rt.alloc(), conn.sent())?, taken))
+    Ok(Shown {
+        sent: Vec::from_slice(rt.alloc(), conn.sent())?,
+        taken: conn.received().saturating_sub(control.untaken()),
+        counts: counted(rt.alloc(), control.counts())?,
+    })
 }

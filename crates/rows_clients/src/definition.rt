@@ -6,7 +6,7 @@ use ftp_runs::model::Ran;
 use ftp_session::model::{self, NetOutcome, NetRecord, Played, Wait};
 use ftp_session::session::{Answer, Call};
 use ftp_transport::{RequestOutcome, Room};
-use rows_plays::{Dial, Named, Play, RowState, boxed, lines_of, texts_of, welcome};
+use rows_plays::{Dial, Named, Play, RowState, boxed, counted, lines_of, texts_of, welcome};
 use rows_text::RowError;
 use session_plain::{connect_in_turn, run};
 use std::alloc::{AllocError, Global};
@@ -206,5 +206,6 @@ fn stands(
         taken: play.input.len().saturating_sub(here.bytes.len()),
         failed: here.failed,
         welcome: welcome(alloc, &here.state)?,
+        counts: counted(alloc, &here.state.counts)?,
     })
 }

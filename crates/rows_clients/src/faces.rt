@@ -3,7 +3,7 @@
 use crate::{client, definition, script, states};
 use ftp_runs::Event;
 use ftp_session::session::Call;
-use rows_plays::{Mark, Play, RowState};
+use rows_plays::{Ending, Mark, Play, RowState};
 use rows_text::RowError;
 use std::alloc::{AllocError, Global};
 use std::random::RandomSource;
@@ -18,7 +18,7 @@ pub enum Face {
     Script,
     /// A run of all calls.
     Run,
-    /// A run over connections that take one byte a write.
+    /// A run over connections that take one byte a write and give one a read.
     Bytewise,
     /// One call of the session after another.
     Methods,
@@ -94,7 +94,7 @@ impl Face {
             Face::Definition => "the definition of runs",
             Face::Script => "the definition of polled runs",
             Face::Run => "a run",
-            Face::Bytewise => "a run, a byte a write",
+            Face::Bytewise => "a run, a byte a read and a write",
             Face::Methods => "one call after another",
             Face::Client => "the blocking client",
             Face::States => "the polled client",
@@ -133,7 +133,7 @@ impl Face {
         self,
         rt: &R,
         play: &Play,
-        welcome: bool,
+        ending: Ending,
     ) -> Result<Came, RowError> {
         let alloc = rt.alloc();
         let places = self.places(alloc, play)?;
@@ -143,9 +143,22 @@ impl Face {
             marks.push(end.mark())?;
         }
         let mut transcript = end.transcript(alloc, &marks)?;
-        end.add_end(alloc, &mut transcript, welcome)?;
+        end.add_end(alloc, &mut transcript, ending)?;
         Ok(Came {
             transcript,
+            failed: end.failed,
+        })
+    }
+
+    /// What the row's answers are, in place of its transcript.
+    pub fn answer<R: Wait + RandomSource + AllocGlobal>(
+        self,
+        rt: &R,
+        play: &Play,
+    ) -> Result<Came, RowError> {
+        let end = self.play_state(rt, play, usize::MAX)?;
+        Ok(Came {
+            transcript: end.answers(rt.alloc())?,
             failed: end.failed,
         })
     }
@@ -223,6 +236,20 @@ fn writes_more(call: &Call) -> bool {
         Call::Write(bytes) => bytes.as_slice().len() > 1,
         _ => false,
     }
+}
+
+/// The answers of a transcript, line by line, but for those that say that there is none.
+///
+/// # Errors
+/// `OutOfMemory`.
+pub fn answers_of(alloc: Global, transcript: &str) -> Result<String, AllocError> {
+    let mut answers = String::new(alloc);
+    for line in transcript.split_inclusive('\n') {
+        if line.starts_with("A: ") && line != "A: none\n" {
+            answers.push_str(line)?;
+        }
+    }
+    Ok(answers)
 }
 
 /// Whether a line of a transcript is of what a transport was asked.

@@ -8,7 +8,7 @@ use ftp_runs::Event;
 use ftp_runs::model::Script;
 use ftp_session::model::NetOutcome;
 use ftp_transport::Room;
-use rows_plays::{Play, RowState, boxed, lines_of, texts_of, welcome};
+use rows_plays::{Play, RowState, boxed, counted, lines_of, texts_of, welcome};
 use rows_text::RowError;
 use session_plain::run_polled;
 use std::alloc::{AllocError, Global};
@@ -65,6 +65,7 @@ pub fn scripted(alloc: Global, events: &[Event], play: &Play) -> Result<RowState
         taken: script.bytes.len().saturating_sub(script.untaken.len()),
         failed: script.failed,
         welcome: welcome(alloc, &script.state)?,
+        counts: counted(alloc, &script.state.counts)?,
     })
 }
 

@@ -13,8 +13,8 @@ use futures::Future;
 use futures::executor::block_on;
 use futures::task::{Context, Poll};
 use rows_plays::{
-    Held, Opening, Play, RowState, Transfers, boxed, greeted, had, made_by_method, optional,
-    recorded, texts_of,
+    Held, Opening, Play, RowState, Transfers, boxed, counted, greeted, had, made_by_method,
+    optional, recorded, texts_of,
 };
 use rows_text::RowError;
 use std::alloc::{AllocError, Global};
@@ -337,6 +337,7 @@ fn told<R: Wait + RandomSource + AllocGlobal>(
             .saturating_sub(control.untaken()),
         failed: false,
         welcome: copied(alloc, control.get_welcome_msg())?,
+        counts: counted(alloc, control.counts())?,
     })
 }
 

@@ -1,15 +1,12 @@
 //! The rows of a set that were played, and those that differed.
 
-use crate::faces::{Agreement, Came, Face};
+use crate::faces::{Agreement, Came, Face, answers_of};
 use anyhow::Result;
-use rows_plays::{Lists, Play, Row};
+use rows_plays::{Ending, Lists, Play, Row};
 use rows_text::RowError;
 use std::fmt;
 use std::random::RandomSource;
 use std::sync::Wait;
-
-/// The sizes of the pieces in which the server's bytes come: as they are written, and by one, two and seven.
-const PIECES: [usize; 4] = [usize::MAX, 1, 2, 7];
 
 /// How many rows of a set were played, how often, and how many plays differed.
 #[derive(Clone, Copy)]
@@ -52,29 +49,48 @@ impl<'a> Tally<'a> {
         if let Some(longest) = row.lists {
             return self.play_lists(rt, row, longest);
         }
-        for piece in PIECES {
-            for lenient in [false, true] {
-                self.play_by(rt, row, piece, lenient)?;
-            }
+        for lenient in [false, true] {
+            self.play_by(rt, row, lenient)?;
         }
         Ok(())
     }
 
-    /// Plays a row on all its faces, leniently or strictly, where it is to be played so.
+    /// Plays a row on all its faces, leniently or strictly, where it is to be played so; a row of events also with a poll
+    /// after each byte of the server.
     fn play_by<R: Wait + Print + RandomSource + AllocGlobal>(
         &mut self,
         rt: &R,
         row: &Row<'_>,
-        piece: usize,
         lenient: bool,
     ) -> Result<()> {
-        let mut play = Play::of(rt.alloc(), &row.lines, row.has_events, piece)?;
+        let mut play = Play::of(rt.alloc(), &row.lines, row.has_events, false)?;
         if !play.setup.reads(lenient) {
             return Ok(());
         }
         let mut agreement = Agreement::new();
         for face in faces_of(row) {
             self.play_on(rt, row, *face, &play, &mut agreement)?;
+        }
+        if row.has_events {
+            return self.play_stepped(rt, row, lenient, agreement);
+        }
+        Ok(())
+    }
+
+    /// Plays a row of events with a poll after each byte of the server, which answers the same.
+    fn play_stepped<R: Wait + Print + RandomSource + AllocGlobal>(
+        &mut self,
+        rt: &R,
+        row: &Row<'_>,
+        lenient: bool,
+        mut agreement: Agreement,
+    ) -> Result<()> {
+        let mut play = Play::of(rt.alloc(), &row.lines, true, true)?;
+        play.setup.reads(lenient);
+        let due = answers_of(rt.alloc(), row.due()?)?;
+        for face in faces_of(row) {
+            let came = face.answer(rt, &play)?;
+            self.compare(rt, row, *face, &play, &mut agreement, due.as_str(), &came)?;
         }
         Ok(())
     }
@@ -91,18 +107,37 @@ impl<'a> Tally<'a> {
         if !face.plays(play) {
             return Ok(());
         }
-        let came = face.play(rt, play, row.wants_welcome)?;
+        let came = face.play(rt, play, row.ending)?;
         let due = face.due(rt.alloc(), play, row.due()?)?;
-        let agrees = agreement.agrees(&came) && came.transcript == due;
+        self.compare(rt, row, face, play, agreement, due.as_str(), &came)
+    }
+
+    /// Counts a play, and prints it where it differs from what is due.
+    fn compare<R: Print>(
+        &mut self,
+        rt: &R,
+        row: &Row<'_>,
+        face: Face,
+        play: &Play,
+        agreement: &mut Agreement,
+        due: &str,
+        came: &Came,
+    ) -> Result<()> {
+        let agrees = agreement.agrees(came) && came.transcript.as_str() == due;
         self.count(agrees);
         if !agrees {
-            let mode = if play.setup.lenient {
+            let reads = if play.setup.lenient {
                 "lenient"
             } else {
                 "strict"
             };
-            println!(rt; "{}, {mode}, in pieces of {}", face.name(), play.piece)?;
-            show(rt, row, &due, &came)?;
+            let comes = if play.stepped {
+                ", a poll after each byte"
+            } else {
+                ""
+            };
+            println!(rt; "{}, {reads}{comes}", face.name())?;
+            show(rt, row, due, came)?;
         }
         Ok(())
     }
@@ -136,9 +171,9 @@ impl<'a> Tally<'a> {
         lists: &Lists<'_>,
     ) -> Result<()> {
         let lines = lists.lines(rt.alloc())?;
-        let play = Play::of(rt.alloc(), &lines, true, 1)?;
-        let due = Face::Script.play(rt, &play, false)?;
-        let came = Face::Polled.play(rt, &play, false)?;
+        let play = Play::of(rt.alloc(), &lines, true, false)?;
+        let due = Face::Script.play(rt, &play, Ending::PLAIN)?;
+        let came = Face::Polled.play(rt, &play, Ending::PLAIN)?;
         let agrees = came.transcript == due.transcript && came.failed == due.failed;
         self.count(agrees);
         if !agrees {

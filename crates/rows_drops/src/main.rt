@@ -1,7 +1,8 @@
 //! Plays the worked rows of calls that are dropped, which come by standard input: each once for each number of polls that
 //! it names, on a new polled client. It prints each play that differs, and a line for each set.
 //!
-//! The connections wait before each byte, so that a call can be dropped between any two bytes that it reads or writes.
+//! The connections wait before each byte, so that a call can be dropped between any two bytes that it reads or writes; and
+//! each row is played with the bytes of the server there at once, too, so that replies lie ahead when a call is dropped.
 //! docs/ROWS.md has the words. A line that isn't understood ends the program with status 1, so that no row is passed over.
 #![tactic(auto)]
 

@@ -15,7 +15,7 @@ use std::sync::Wait;
 pub enum Played {
     /// Its transcript.
     Whole(String),
-    /// The call of this step has its answer before it is polled as often as in this play, and the row has no last number.
+    /// The call of this step has its answer before it is polled as often as in this play, which the row passes over.
     Over(usize),
 }
 
@@ -125,8 +125,9 @@ fn is_on<R: Wait + RandomSource + AllocGlobal>(
         first,
         last,
         is_open,
+        is_partial,
     } = step.polls;
-    if is_open && !waits && number > first {
+    if !waits && (is_partial || is_open && number > first) {
         return Ok(false);
     }
     if !waits || is_open && number >= last {

@@ -33,16 +33,16 @@ fn client_of(alloc: Global, script: &Script) -> Result<Box<Client>, RowError> {
         ready.push_back(SlowConn::with(alloc, input)?)?;
     }
     let transport = SlowTransport::with(alloc, ready);
-    client_on(alloc, transport, &script.server)
+    client_on(alloc, transport, script)
 }
 
-/// A client over this transport whose server sends these bytes. Nothing of them was read.
+/// A client over this transport whose server sends what a row says. Nothing of that was read.
 fn client_on(
     alloc: Global,
     transport: SlowTransport,
-    input: &[u8],
+    script: &Script,
 ) -> Result<Box<Client>, RowError> {
-    let control = match SlowConn::with(alloc, input) {
+    let control = match SlowConn::of_pieces(alloc, &script.server, script.at_once) {
         Ok(control) => control,
         Err(AllocError) => {
             drop(transport);

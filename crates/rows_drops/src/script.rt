@@ -9,7 +9,7 @@ use std::alloc::{AllocError, Global};
 /// What a line says.
 #[derive(Clone, Copy)]
 pub enum Kind {
-    /// `server BYTES`: the server sends these, and then its input ends.
+    /// `server BYTES`: the server sends these, at once where the row is played so; after the last such line its input ends.
     Server,
     /// `connects BYTES`: the next data connection connects, or comes; these bytes come on it, and then it ends.
     Connects,
@@ -60,6 +60,8 @@ pub struct Polls {
     pub last: usize,
     /// Whether the numbers end with the last one after which the call still waits, below [`Polls::last`].
     pub is_open: bool,
+    /// Whether those after which the call doesn't wait are passed over.
+    pub is_partial: bool,
 }
 
 impl Polls {
@@ -69,16 +71,32 @@ impl Polls {
             first,
             last,
             is_open: false,
+            is_partial: false,
+        }
+    }
+
+    /// `POLLS`, or `POLLS/POLLS` for the bytes of the server a byte at a time, and at once. Where one is said alone it is of
+    /// both, and those after which the call doesn't wait are passed over where the bytes come at once.
+    fn of(word: &str, at_once: bool) -> Result<Polls, RowError> {
+        match word.split_once('/') {
+            Some((_, polls)) if at_once => Polls::range(polls),
+            Some((polls, _)) => Polls::range(polls),
+            None => {
+                let mut polls = Polls::range(word)?;
+                polls.is_partial = at_once;
+                Ok(polls)
+            }
         }
     }
 
     /// `N`, `N..M` or `N..`.
-    fn of(word: &str) -> Result<Polls, RowError> {
+    fn range(word: &str) -> Result<Polls, RowError> {
         match word.split_once("..") {
             Some((first, "")) => Ok(Polls {
                 first: value(first)?,
                 last: MOST,
                 is_open: true,
+                is_partial: false,
             }),
             Some((first, last)) => Ok(Polls::between(value(first)?, value(last)?)),
             None => {
@@ -116,8 +134,10 @@ pub struct Step {
 /// What a row says.
 #[derive(Drop)]
 pub struct Script {
-    /// What the server sends.
-    pub server: Vec<u8>,
+    /// What the server sends, line by line.
+    pub server: Vec<Vec<u8>>,
+    /// Whether each of these comes at once.
+    pub at_once: bool,
     /// What comes on each data connection.
     pub data_conns: Vec<Vec<u8>>,
     /// What the client does.
@@ -125,13 +145,14 @@ pub struct Script {
 }
 
 impl Script {
-    /// What these lines say.
+    /// What these lines say, where the server's bytes come a byte at a time, or at once.
     ///
     /// # Errors
     /// `NotUnderstood`, `OutOfMemory`.
-    pub fn of(alloc: Global, lines: &str) -> Result<Box<Script>, RowError> {
+    pub fn of(alloc: Global, lines: &str, at_once: bool) -> Result<Box<Script>, RowError> {
         let script = Script {
             server: Vec::new(alloc),
+            at_once,
             data_conns: Vec::new(alloc),
             steps: Vec::new(alloc),
         };
@@ -175,9 +196,9 @@ impl Script {
     fn read(&mut self, alloc: Global, line: &str) -> Result<(), RowError> {
         let (word, rest) = line.split_once(' ').unwrap_or((line, ""));
         match kind_of(word)? {
-            Kind::Server => self.server = bytes_of(alloc, rest)?,
+            Kind::Server => self.server.push(bytes_of(alloc, rest)?)?,
             Kind::Connects => self.data_conns.push(bytes_of(alloc, rest)?)?,
-            kind => self.steps.push(step_of(alloc, kind, rest)?)?,
+            kind => self.steps.push(step_of(alloc, kind, rest, self.at_once)?)?,
         }
         Ok(())
     }
@@ -194,11 +215,11 @@ fn kind_of(word: &str) -> Result<Kind, RowError> {
 }
 
 /// The step of this kind, with what stands after its word.
-fn step_of(alloc: Global, kind: Kind, rest: &str) -> Result<Step, RowError> {
+fn step_of(alloc: Global, kind: Kind, rest: &str, at_once: bool) -> Result<Step, RowError> {
     let (polls, words) = match kind {
         Kind::Drop | Kind::Hold if !rest.is_empty() => {
             let (polls, words) = pair(rest, " ")?;
-            (Polls::of(polls)?, words)
+            (Polls::of(polls, at_once)?, words)
         }
         _ => (Polls::between(0, 0), rest),
     };

@@ -1,6 +1,6 @@
-//! Connections over memory that wait before each byte, and a transport that hands them out.
+//! Connections over memory that wait before each byte or each piece, and a transport that hands them out.
 
-ghost use Rattle.std.specs.Prelude.{[], ◌≡◌, Ok};
+ghost use Rattle.std.specs.Prelude.{[], ◌≡◌, ◌<◌, ◌≤◌, Ok};
 ghost use Rattle.ftp_transport.specs.Memory.{fresh_memory};
 
 use ftp_base::types::ConnectionError;
@@ -12,13 +12,16 @@ use futures::task::{Context, Poll};
 use std::alloc::{AllocError, Global};
 use std::collections::VecDeque;
 use std::io::ErrorKind;
+use std::mem;
 use std::net::SocketAddr;
 use std::time::Duration;
 
-/// A connection that reads and writes one byte a call, and waits before each.
+/// A connection that writes one byte a call, reads one or what is left of a piece, and waits before each.
 #[derive(Drop)]
 pub struct SlowConn {
     conn: MemoryConn,
+    // How many bytes are left of each piece that a read gives whole; none where it gives one byte.
+    pieces: VecDeque<usize>,
     // Whether the next read was waited for, and whether the next write was.
     reads: bool,
     writes: bool,
@@ -33,10 +36,51 @@ impl SlowConn {
         conn.end();
         Ok(SlowConn {
             conn,
+            pieces: VecDeque::new(alloc),
             reads: false,
             writes: false,
             closed: false,
         })
+    }
+
+    /// A connection on which these pieces come, a byte at a time or each at once, and then the end.
+    pub fn of_pieces(
+        alloc: Global,
+        pieces: &[Vec<u8>],
+        at_once: bool,
+    ) -> Result<SlowConn, AllocError> {
+        let mut input = Vec::new(alloc);
+        let mut lengths = VecDeque::new(alloc);
+        for piece in pieces {
+            input.extend_from_slice(piece)?;
+            if at_once {
+                lengths.push_back(piece.len())?;
+            }
+        }
+        let mut conn = SlowConn::with(alloc, &input)?;
+        drop(mem::replace(&mut conn.pieces, lengths));
+        Ok(conn)
+    }
+
+    /// How many bytes the next read gives at most.
+    fn most(&self, wanted: usize) -> usize
+        requires { 0 < wanted }
+        ensures some { 0 < result }
+        ensures bound { result ≤ wanted }
+    {
+        match self.pieces.front() {
+            Some(left) if *left > 0 => { if *left < wanted { *left } else { wanted } }
+            _ => 1,
+        }
+    }
+
+    /// So many bytes were read.
+    fn took(&mut self, count: usize) {
+        if let Some(left) = self.pieces.pop_front()
+            && left > count
+        {
+            let _ = self.pieces.push_front(left.saturating_sub(count));
+        }
     }
 
     /// What was written.
@@ -87,12 +131,11 @@ impl PollConn<()> for SlowConn {
         if self.reads {
             return Ok(Poll::Pending);
         }
-        let mut byte = [0u8; 1];
-        match self.conn.poll_read(w, &mut byte)? {
-            Poll::Ready(0) => Ok(Poll::Ready(0)),
-            Poll::Ready(_) => {
-                buffer[0] = byte[0];
-                Ok(Poll::Ready(1))
+        let most = self.most(buffer.len());
+        match self.conn.poll_read(w, &mut buffer[..most])? {
+            Poll::Ready(count) => {
+                self.took(count);
+                Ok(Poll::Ready(count))
             }
             Poll::Pending => Ok(Poll::Pending),
         }

@@ -14,6 +14,8 @@ pub struct Tally<'a> {
     set: &'a str,
     rows: u64,
     plays: u64,
+    // How many of these have the server's bytes at once.
+    at_once: u64,
     differ: u64,
 }
 
@@ -24,6 +26,7 @@ impl<'a> Tally<'a> {
             set,
             rows: 0,
             plays: 0,
+            at_once: 0,
             differ: 0,
         }
     }
@@ -54,16 +57,38 @@ impl<'a> Tally<'a> {
         let rows = self.rows;
         let plays = self.plays;
         let differ = self.differ;
-        println!(rt; "{set}: {rows} rows, {plays} plays, {differ} differ")
+        let at_once = self.at_once;
+        println!(rt;
+            "{set}: {rows} rows, {plays} plays, {at_once} of them at once, {differ} differ"
+        )
     }
 
-    /// Plays a row with each of its numbers of polls.
+    /// Plays a row with the server's bytes one at a time, and at once.
     fn play<R: Wait + Print + RandomSource + AllocGlobal>(
         &mut self,
         rt: &R,
         row: Row<'_>,
     ) -> Result<()> {
-        let mut script = Script::of(rt.alloc(), row.lines)?;
+        self.play_by(rt, row, false)?;
+        let before = self.plays;
+        self.play_by(rt, row, true)?;
+        let more = self.plays.saturating_sub(before);
+        self.at_once = self.at_once.saturating_add(more);
+        if more == 0 {
+            self.differ = self.differ.saturating_add(1);
+            println!(rt; "{}: {}, not played at once", row.set, row.title)?;
+        }
+        Ok(())
+    }
+
+    /// Plays a row with each of its numbers of polls.
+    fn play_by<R: Wait + Print + RandomSource + AllocGlobal>(
+        &mut self,
+        rt: &R,
+        row: Row<'_>,
+        at_once: bool,
+    ) -> Result<()> {
+        let mut script = Script::of(rt.alloc(), row.lines, at_once)?;
         for _ in 0..u64::MAX {
             let count = self.play_once(rt, row, &script)?;
             if !script.advance(count) {
@@ -110,6 +135,7 @@ impl<'a> Tally<'a> {
             ..
         } = row;
         let numbers = script.numbers(rt.alloc())?;
-        println!(rt; "{set}: {title}, polls{numbers}\ndue\n{due}\ncame\n{came}")
+        let comes = if script.at_once { ", at once" } else { "" };
+        println!(rt; "{set}: {title}, polls{numbers}{comes}\ndue\n{due}\ncame\n{came}")
     }
 }

@@ -69,7 +69,7 @@ where
     R: Wait + Print + RandomSource + AllocGlobal,
 {
     let due = row.due()?;
-    let play = Play::of(rt.alloc(), &row.lines, row.has_events, usize::MAX)?;
+    let play = Play::of(rt.alloc(), &row.lines, row.has_events, false)?;
     let (came, verdict) = if row.has_events {
         let came = happened(rt.alloc(), &play)?;
         let verdict = judge_events(&came, due);

@@ -99,7 +99,7 @@ impl PassiveStreamBuilder<MemoryConn> for RowBuilder {
     fn build(&self, _address: SocketAddr) -> FtpResult<MemoryConn> {
         match self.fault() {
             Some(fault) => Err(fault),
-            None => Ok(ended(MemoryConn::new(self.alloc), &self.bytes, usize::MAX)?),
+            None => Ok(ended(MemoryConn::new(self.alloc), &self.bytes)?),
         }
     }
 }

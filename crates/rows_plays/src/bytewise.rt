@@ -1,4 +1,7 @@
-//! A session over memory whose connections take one byte a write.
+//! A session over memory whose connections take one byte a write and give one a read.
+//!
+//! Where a row reads a data connection by calls of its own, what these return is how the bytes come, so there the data
+//! connections give all that is asked for.
 
 ghost use Rattle.std.specs.Prelude.{[], ◌≡◌, Ok};
 ghost use Rattle.ftp_transport.specs.Memory.{fresh_memory};
@@ -9,7 +12,7 @@ use crate::encodings::Named;
 use crate::memory::{boxed, had};
 use crate::play::Play;
 use crate::requests::recorded;
-use crate::session::{conn_of, uploaded, welcome};
+use crate::session::{conn_of, counted, uploaded, welcome};
 use crate::transcript::RowState;
 use ftp_base::types::FtpResult;
 use ftp_runs::RunCalls;
@@ -24,10 +27,11 @@ use std::io::ErrorKind;
 use std::net::SocketAddr;
 use std::time::Duration;
 
-/// A connection over memory that takes one byte a write.
+/// A connection over memory that takes one byte a write and, unless it gives all that is asked for, gives one a read.
 #[derive(Drop)]
 pub struct ByteConn {
     conn: MemoryConn,
+    gives_all: bool,
 }
 
 impl Tells for ByteConn {
@@ -60,7 +64,11 @@ impl Conn for ByteConn {
     ghost blocking_write_faults = { λ _ _. Unit {0} };
 
     fn read(&mut self, buffer: &mut [u8]) -> Result<usize, ErrorKind> {
-        self.conn.read(buffer)
+        if self.gives_all {
+            self.conn.read(buffer)
+        } else {
+            self.conn.read(&mut buffer[..1])
+        }
     }
 
     fn write(&mut self, bytes: &[u8]) -> Result<usize, ErrorKind> {
@@ -71,11 +79,16 @@ impl Conn for ByteConn {
 /// A transport over memory that hands out such connections.
 pub struct ByteTransport {
     memory: MemoryTransport,
+    // Whether its data connections give all that is asked for.
+    gives_all: bool,
 }
 
 impl Drop for ByteTransport {
     fn drop(self) {
-        let Self { memory } = self;
+        let Self {
+            memory,
+            gives_all: _,
+        } = self;
         drop(memory);
     }
 }
@@ -112,22 +125,22 @@ impl Network for ByteTransport {
     }
 
     fn closed(&mut self, conn: ByteConn) {
-        let ByteConn { conn } = conn;
+        let ByteConn { conn, gives_all: _ } = conn;
         self.memory.closed(conn);
     }
 }
 
 /// The same connection, a byte a write, if there is one.
-fn bytewise(made: Connected<MemoryConn>) -> Connected<ByteConn> {
+fn bytewise(made: Connected<MemoryConn>, gives_all: bool) -> Connected<ByteConn> {
     match made? {
-        Ok(conn) => Ok(Ok(ByteConn { conn })),
+        Ok(conn) => Ok(Ok(ByteConn { conn, gives_all })),
         Err(fault) => Ok(Err(fault)),
     }
 }
 
 impl<R> Transport<R> for ByteTransport {
     fn connect(&mut self, rt: &R, address: SocketAddr) -> Connected<ByteConn> {
-        bytewise(self.memory.connect(rt, address))
+        bytewise(self.memory.connect(rt, address), self.gives_all)
     }
 
     fn connect_timeout(
@@ -136,7 +149,10 @@ impl<R> Transport<R> for ByteTransport {
         address: SocketAddr,
         limit: Duration,
     ) -> Connected<ByteConn> {
-        bytewise(self.memory.connect_timeout(rt, address, limit))
+        bytewise(
+            self.memory.connect_timeout(rt, address, limit),
+            self.gives_all,
+        )
     }
 
     fn listen(&mut self, rt: &R, address: SocketAddr) -> Listening<MemoryListener> {
@@ -150,14 +166,18 @@ impl<R> Transport<R> for ByteTransport {
         deadline: Duration,
     ) -> Accepted<ByteConn> {
         match self.memory.accept(rt, listener, deadline)? {
-            Ok((conn, from)) => Ok(Ok((ByteConn { conn }, from))),
+            Ok((conn, from)) => {
+                let gives_all = self.gives_all;
+                Ok(Ok((ByteConn { conn, gives_all }, from)))
+            }
             Err(fault) => Ok(Err(fault)),
         }
     }
 
     fn secure(&mut self, rt: &R, conn: ByteConn) -> Handshaken<ByteConn> {
-        match self.memory.secure(rt, conn.conn)? {
-            Ok(conn) => Ok(Ok(ByteConn { conn })),
+        let ByteConn { conn, gives_all } = conn;
+        match self.memory.secure(rt, conn)? {
+            Ok(conn) => Ok(Ok(ByteConn { conn, gives_all })),
             Err(fault) => Ok(Err(fault)),
         }
     }
@@ -167,12 +187,13 @@ impl<R> Transport<R> for ByteTransport {
 #[derive(Drop)]
 pub struct ByteBuilder {
     builder: RowBuilder,
+    gives_all: bool,
 }
 
 impl ByteBuilder {
-    /// A builder that makes what this one does.
-    pub fn new(builder: RowBuilder) -> ByteBuilder {
-        ByteBuilder { builder }
+    /// A builder that makes what this one does; whether its connections give all that is asked for.
+    pub fn new(builder: RowBuilder, gives_all: bool) -> ByteBuilder {
+        ByteBuilder { builder, gives_all }
     }
 }
 
@@ -181,7 +202,8 @@ impl PassiveStreamBuilder<ByteConn> for ByteBuilder {
 
     fn build(&self, address: SocketAddr) -> FtpResult<ByteConn> {
         let conn = self.builder.build(address)?;
-        Ok(ByteConn { conn })
+        let gives_all = self.gives_all;
+        Ok(ByteConn { conn, gives_all })
     }
 }
 
@@ -198,16 +220,26 @@ fn unread(alloc: Global, play: &Play) -> Result<Box<ByteSession>, RowError> {
             return Err(RowError::OutOfMemory);
         }
     };
-    let session = Session::new(alloc, ByteTransport { memory }, ByteConn { conn });
+    let conn = ByteConn {
+        conn,
+        gives_all: false,
+    };
+    let gives_all = play.calls.iter().any(reads);
+    let session = Session::new(alloc, ByteTransport { memory, gives_all }, conn);
     let mut session = boxed(alloc, had(session)?)?;
-    play.setup.set_bytewise(&mut session)?;
+    play.setup.set_bytewise(&mut session, gives_all)?;
     if let Some(encoding) = play.encoding {
         had(session.set_encoding(alloc, encoding))?;
     }
     Ok(session)
 }
 
-/// Where a run of these calls ends whose connections take one byte a write.
+/// Whether a call is a read of a data connection.
+fn reads(call: &Call) -> bool {
+    matches!(call, Call::Read(_))
+}
+
+/// Where a run of these calls ends whose connections take one byte a write and give one a read.
 ///
 /// # Errors
 /// `OutOfMemory`.
@@ -224,5 +256,6 @@ pub fn ran_bytewise(alloc: Global, calls: &[Call], play: &Play) -> Result<RowSta
         taken: conn.received().saturating_sub(session.untaken()),
         failed: session.failed(),
         welcome: welcome(alloc, session.state())?,
+        counts: counted(alloc, session.counts())?,
     })
 }

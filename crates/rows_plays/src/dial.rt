@@ -114,23 +114,18 @@ impl Dial {
         }
     }
 
-    /// The transport that leads to these servers, whose bytes come in pieces of so many.
-    pub fn transport(&self, alloc: Global, piece: usize) -> Result<MemoryTransport, AllocError> {
+    /// The transport that leads to these servers.
+    pub fn transport(&self, alloc: Global) -> Result<MemoryTransport, AllocError> {
         let mut transport = MemoryTransport::new(alloc);
-        self.supply(alloc, &mut transport, piece)?;
+        self.supply(alloc, &mut transport)?;
         Ok(transport)
     }
 
     /// Supplies a transport with these servers.
-    fn supply(
-        &self,
-        alloc: Global,
-        transport: &mut MemoryTransport,
-        piece: usize,
-    ) -> Result<(), AllocError> {
+    fn supply(&self, alloc: Global, transport: &mut MemoryTransport) -> Result<(), AllocError> {
         for host in &self.hosts {
             transport.supply(match host {
-                Some(bytes) => { Supply::Connects(ended(MemoryConn::new(alloc), bytes, piece)?) }
+                Some(bytes) => Supply::Connects(ended(MemoryConn::new(alloc), bytes)?),
                 None => Supply::Refuses(ErrorKind::ConnectionRefused),
             })?;
         }

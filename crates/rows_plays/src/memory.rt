@@ -27,17 +27,9 @@ pub fn had<T: Drop>(outcome: FtpResult<T>) -> Result<T, RowError> {
     }
 }
 
-/// A connection on which these bytes came, in pieces of so many, and then it ended.
-pub fn ended(mut conn: MemoryConn, bytes: &[u8], piece: usize) -> Result<MemoryConn, AllocError> {
-    feed(&mut conn, bytes, piece)?;
+/// A connection on which these bytes came, and then it ended.
+pub fn ended(mut conn: MemoryConn, bytes: &[u8]) -> Result<MemoryConn, AllocError> {
+    conn.feed(bytes)?;
     conn.end();
     Ok(conn)
-}
-
-/// These bytes come on a connection, in pieces of so many.
-fn feed(conn: &mut MemoryConn, bytes: &[u8], piece: usize) -> Result<(), AllocError> {
-    for part in bytes.chunks(piece.max(1)) {
-        conn.feed(part)?;
-    }
-    Ok(())
 }

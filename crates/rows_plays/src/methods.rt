@@ -138,7 +138,7 @@ fn on_the_connection(alloc: Global, play: &Play) -> FtpResult<Box<NamedSession>>
 
 /// The session that connects to addresses.
 fn dialled(alloc: Global, dial: &Dial, play: &Play) -> FtpResult<Box<NamedSession>> {
-    let transport = dial.transport(alloc, play.piece)?;
+    let transport = dial.transport(alloc)?;
     let session = match (dial.limit, dial.addresses.first()) {
         (Some(limit), Some(address)) => {
             Session::connect_timeout(alloc, &(), transport, *address, limit)

@@ -25,8 +25,8 @@ pub struct Play {
     pub events: Vec<Event>,
     /// Before which events a run of its own begins.
     pub runs: Vec<usize>,
-    /// In pieces of how many bytes the server's come.
-    pub piece: usize,
+    /// Whether each byte of the server comes alone, and the call under way is polled then.
+    pub stepped: bool,
     /// The encoding of the session.
     pub encoding: Option<Named>,
     /// How the session comes to its connection, where the row says so.
@@ -42,7 +42,7 @@ impl Drop for Play {
             calls,
             events,
             runs,
-            piece: _,
+            stepped: _,
             encoding,
             dial,
             setup,
@@ -66,9 +66,9 @@ impl Play {
         alloc: Global,
         lines: &[&str],
         has_events: bool,
-        piece: usize,
+        stepped: bool,
     ) -> Result<Box<Play>, RowError> {
-        let mut play = Play::begun(alloc, piece)?;
+        let mut play = Play::begun(alloc, stepped)?;
         for line in lines {
             play.add_input(alloc, Step::of(line)?)?;
         }
@@ -83,7 +83,7 @@ impl Play {
     }
 
     /// Nothing is played.
-    fn begun(alloc: Global, piece: usize) -> Result<Box<Play>, AllocError> {
+    fn begun(alloc: Global, stepped: bool) -> Result<Box<Play>, AllocError> {
         let setup = boxed(alloc, Setup::new(alloc))?;
         boxed(
             alloc,
@@ -92,7 +92,7 @@ impl Play {
                 calls: Vec::new(alloc),
                 events: Vec::new(alloc),
                 runs: Vec::new(alloc),
-                piece,
+                stepped,
                 encoding: None,
                 dial: None,
                 setup,
@@ -177,14 +177,22 @@ impl Play {
 
     /// All bytes come, and they end.
     fn add_all(&mut self, alloc: Global) -> Result<(), RowError> {
-        feed(alloc, &mut self.events, &self.input, self.piece)?;
+        let input = Bytes::from_slice(alloc, &self.input)?;
+        self.push(Event::Feed(input))?;
         self.push(Event::End)
     }
 
     /// These bytes come.
     fn feed(&mut self, alloc: Global, bytes: &str) -> Result<(), RowError> {
         let bytes = bytes_of(alloc, bytes)?;
-        feed(alloc, &mut self.events, &bytes, self.piece)
+        if !self.stepped {
+            return self.push(Event::Feed(Bytes::from_vec(bytes)));
+        }
+        for byte in bytes.chunks(1) {
+            self.push(Event::Feed(Bytes::from_slice(alloc, byte)?))?;
+            self.push(Event::Poll)?;
+        }
+        Ok(())
     }
 
     /// A call is made whole; among events it begins and is polled.
@@ -205,24 +213,6 @@ impl Play {
     }
 
     fn push(&mut self, event: Event) -> Result<(), RowError> {
-        push(&mut self.events, event)
+        Ok(self.events.push(event)?)
     }
-}
-
-/// Adds events in which these bytes come, in pieces of so many.
-fn feed(
-    alloc: Global,
-    events: &mut Vec<Event>,
-    bytes: &[u8],
-    piece: usize,
-) -> Result<(), RowError> {
-    for part in bytes.chunks(piece.max(1)) {
-        push(events, Event::Feed(Bytes::from_slice(alloc, part)?))?;
-    }
-    Ok(())
-}
-
-/// Adds an event.
-fn push(events: &mut Vec<Event>, event: Event) -> Result<(), RowError> {
-    Ok(events.push(event)?)
 }

@@ -4,6 +4,23 @@ use crate::step::{Kind, Step};
 use rows_text::RowError;
 use std::alloc::Global;
 
+/// What a transcript ends with, beside the uploads and how much was consumed.
+#[derive(Clone, Copy)]
+pub struct Ending {
+    /// The text that the server greeted with.
+    pub welcome: bool,
+    /// How many transfers were opened, and what became of them.
+    pub counts: bool,
+}
+
+impl Ending {
+    /// Nothing more.
+    pub const PLAIN: Ending = Ending {
+        welcome: false,
+        counts: false,
+    };
+}
+
 /// A row, as far as it was read.
 pub struct Row<'a> {
     /// The set that it belongs to.
@@ -14,8 +31,8 @@ pub struct Row<'a> {
     pub lines: Vec<&'a str>,
     /// Whether it is a row of events.
     pub has_events: bool,
-    /// Whether its transcript ends with the welcome text.
-    pub wants_welcome: bool,
+    /// What its transcript ends with.
+    pub ending: Ending,
     /// Whether it is played on sessions alone.
     pub is_of_sessions: bool,
     /// How long the lists of its lines are, where it is a row of lists.
@@ -31,7 +48,7 @@ impl Drop for Row<'_> {
             title: _,
             lines,
             has_events: _,
-            wants_welcome: _,
+            ending: _,
             is_of_sessions: _,
             lists: _,
             due,
@@ -55,7 +72,7 @@ impl<'a> Row<'a> {
             title,
             lines: Vec::new(alloc),
             has_events: false,
-            wants_welcome: false,
+            ending: Ending::PLAIN,
             is_of_sessions: false,
             lists: None,
             due: None,
@@ -82,7 +99,8 @@ impl<'a> Row<'a> {
     /// Notes what a step says of its row.
     fn note(&mut self, step: Step<'a>) {
         match step.kind {
-            Kind::Welcome => self.wants_welcome = true,
+            Kind::Welcome => self.ending.welcome = true,
+            Kind::Counts => self.ending.counts = true,
             Kind::Sessions => self.is_of_sessions = true,
             Kind::Lists => self.lists = Some(step.argument),
             _ => self.has_events = self.has_events || step.is_event(),

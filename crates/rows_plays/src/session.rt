@@ -8,7 +8,7 @@ use crate::play::Play;
 use crate::requests::recorded;
 use crate::transcript::RowState;
 use ftp_runs::{Event, RunCalls, RunEvents};
-use ftp_session::session::{Answer, Call, NoTlsConnector, Session, State};
+use ftp_session::session::{Answer, Call, Counts, NoTlsConnector, Owed, Session, State};
 use ftp_transport::{MemoryConn, MemoryTransport};
 use rows_text::RowError;
 use std::alloc::{AllocError, Global};
@@ -22,9 +22,9 @@ fn bare(alloc: Global, play: &Play) -> MemoryConn {
     MemoryConn::between(alloc, local, peer)
 }
 
-/// A connection that the server's bytes came on, in their pieces, and ended.
+/// A connection that the server's bytes came on, and ended.
 pub fn conn_of(alloc: Global, play: &Play) -> Result<MemoryConn, AllocError> {
-    ended(bare(alloc, play), &play.input, play.piece)
+    ended(bare(alloc, play), &play.input)
 }
 
 /// A session with the row's settings on the server's bytes, of which nothing was read.
@@ -127,7 +127,23 @@ pub fn stands(
         taken: conn.received().saturating_sub(session.untaken()),
         failed: session.failed(),
         welcome: welcome(alloc, session.state())?,
+        counts: counted(alloc, session.counts())?,
     })
+}
+
+/// How many transfers were opened, how many came to which end, and which is owed.
+///
+/// # Errors
+/// `OutOfMemory`.
+pub fn counted(alloc: Global, counts: &Counts) -> Result<String, AllocError> {
+    let (opened, finished) = (counts.opened(), counts.finished());
+    let (aborted, drained) = (counts.aborted(), counts.drained());
+    let ends = format!(in alloc; "finished {finished}, aborted {aborted}, drained {drained}")?;
+    match counts.owed() {
+        Owed::Nothing => format!(in alloc; "opened {opened}, {ends}, nothing owed"),
+        Owed::Live(number) => format!(in alloc; "opened {opened}, {ends}, {number} live"),
+        Owed::Left(number) => format!(in alloc; "opened {opened}, {ends}, {number} left"),
+    }
 }
 
 /// What the server greeted with.

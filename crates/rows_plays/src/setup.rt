@@ -156,15 +156,20 @@ impl Setup {
         Ok(())
     }
 
-    /// Sets a session so whose connections take one byte a write.
-    pub fn set_bytewise(&self, session: &mut ByteSession) -> Result<(), AllocError> {
+    /// Sets a session so whose connections take one byte a write; whether its data connections give all that is asked
+    /// for.
+    pub fn set_bytewise(
+        &self,
+        session: &mut ByteSession,
+        gives_all: bool,
+    ) -> Result<(), AllocError> {
         session.set_mode(self.state.settings.mode);
         session.set_passive_nat_workaround(self.state.settings.passive_nat_workaround);
         session.set_active_peer_check(self.state.settings.active_peer_check.clone()?);
         session.set_active_deadline(self.state.settings.active_deadline);
         session.set_lenient_replies(self.lenient);
         if let Some(builder) = &self.builder {
-            session.set_passive_stream_builder(ByteBuilder::new(builder.again()?));
+            session.set_passive_stream_builder(ByteBuilder::new(builder.again()?, gives_all));
         }
         Ok(())
     }
@@ -245,7 +250,7 @@ fn bytes_on(item: Option<&Item>) -> &[u8] {
 
 /// A connection on which these bytes came, and ended.
 fn conn_of(alloc: Global, bytes: &[u8]) -> Result<MemoryConn, AllocError> {
-    ended(MemoryConn::new(alloc), bytes, usize::MAX)
+    ended(MemoryConn::new(alloc), bytes)
 }
 
 /// What a request results in where this is the next item, and whether it consumes the item; listeners get this port.

@@ -47,6 +47,8 @@ pub enum Kind {
     Later,
     /// `welcome`: the transcript ends with the text that the server greeted with.
     Welcome,
+    /// `counts`: the transcript ends with how many transfers were opened, and what became of them.
+    Counts,
     /// `sessions`: the row is played on sessions alone. The definition says nothing of it, as of a call that is dropped
     /// in mid-way, or takes too long, as on a long reply.
     Sessions,
@@ -81,7 +83,7 @@ const WITH_ARGUMENT: [(&str, Kind); 22] = [
 ];
 
 /// Words that stand alone.
-const BARE: [(&str, Kind); 12] = [
+const BARE: [(&str, Kind); 13] = [
     ("lenient", Kind::Set),
     ("strict", Kind::Set),
     ("refuses", Kind::Refuses),
@@ -93,6 +95,7 @@ const BARE: [(&str, Kind); 12] = [
     ("leave", Kind::Leave),
     ("later", Kind::Later),
     ("welcome", Kind::Welcome),
+    ("counts", Kind::Counts),
     ("sessions", Kind::Sessions),
 ];
 

@@ -1,5 +1,6 @@
 //! Transcripts: what went out, what was returned and how much was consumed, as text.
 
+use crate::row::Ending;
 use rows_text::shown;
 use std::alloc::{AllocError, Global};
 
@@ -19,6 +20,8 @@ pub struct RowState {
     pub failed: bool,
     /// What the server greeted with.
     pub welcome: Option<String>,
+    /// How many transfers were opened, and what became of them.
+    pub counts: String,
 }
 
 impl Drop for RowState {
@@ -31,12 +34,14 @@ impl Drop for RowState {
             taken: _,
             failed: _,
             welcome,
+            counts,
         } = self;
         drop(asked);
         drop(uploaded);
         drop(sent);
         drop(answers);
         drop(welcome);
+        drop(counts);
     }
 }
 
@@ -93,15 +98,28 @@ impl RowState {
         &self,
         alloc: Global,
         text: &mut String,
-        welcome: bool,
+        ending: Ending,
     ) -> Result<(), AllocError> {
-        if welcome {
+        if ending.welcome {
             self.add_welcome(alloc, text)?;
         }
         for sent in &self.uploaded {
             add_upload(alloc, text, sent)?;
         }
-        write!(text, "T: {}\n", self.taken)
+        write!(text, "T: {}\n", self.taken)?;
+        if ending.counts {
+            write!(text, "N: {}\n", self.counts)?;
+        }
+        Ok(())
+    }
+
+    /// The lines of its answers alone.
+    pub fn answers(&self, alloc: Global) -> Result<String, AllocError> {
+        let mut text = String::new(alloc);
+        for answer in &self.answers {
+            write!(text, "A: {answer}\n")?;
+        }
+        Ok(text)
     }
 
     /// The line of the text that the server greeted with.

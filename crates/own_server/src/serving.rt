@@ -1,4 +1,4 @@
-//! A server of the examples' own on loopback: as much of FTP (RFC 959, RFC 3659) as they need, for one client.
+//! What the server does: as much of FTP (RFC 959, RFC 3659) as the programs need, for one client.
 
 use std::alloc::Global;
 use std::io;
