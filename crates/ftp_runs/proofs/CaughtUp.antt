@@ -1,5 +1,5 @@
 -- Lemmas on replies that are read over memory because they are due to commands that were dropped.
-use Rattle.std.proofs.Common.{◌≡◌, ◌⊎◌, ℕ, zero, suc, Bool, true, false, eqb, Option, Some, None, List, [], ◌∷◌, ◌++◌, Result, Ok, Err, inl, inr, refl, ap, sym, ◌∙◌, subst}
+use Rattle.std.proofs.Common.{◌≡◌, ◌⊎◌, ℕ, zero, suc, Bool, true, false, Option, Some, None, List, [], ◌∷◌, ◌++◌, Result, Ok, Err, inl, inr, refl, ap, sym, ◌∙◌, subst}
 use Rattle.futures.specs.declared.task.Poll.{Poll}
 use Rattle.futures.specs.declared.task.Poll.TheVariants.{Ready, Pending}
 use Rattle.ftp_base.specs.declared.types.reply.Response.{Response}
@@ -15,7 +15,7 @@ use Rattle.ftp_dialogue.specs.Link.{Builds, Link, builds_nothing, over_memory, p
 use Rattle.ftp_dialogue.specs.NetEvents.{Constructed, Dropped, Handshook, Moved, Net, NetEvent, NetEvents, Parted, Requested}
 use Rattle.ftp_dialogue.specs.Play.{play}
 use Rattle.ftp_dialogue.specs.Promises.{Aborts, Fails, FailsRead, FailsWith, HasFault, IsFault, LacksMemory, Leads, Reads, Touched, Untouched, failed_from, lacking_at}
-use Rattle.ftp_dialogue.specs.Reading.{ReadsAlone, ReadsCounted, ReadsUnless}
+use Rattle.ftp_dialogue.specs.Reading.{ReadsAlone, ReadsUnless}
 use Rattle.ftp_dialogue.specs.State.{SessionValue}
 use Rattle.ftp_dialogue.specs.Unanswered.{most_commands}
 use Rattle.ftp_dialogue.specs.declared.model.Played.{Played}

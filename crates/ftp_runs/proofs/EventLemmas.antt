@@ -27,7 +27,7 @@ use Rattle.ftp_runs.specs.declared.model.Script.{Script}
 use Rattle.ftp_dialogue.specs.State.{SessionValue}
 use Rattle.ftp_dialogue.specs.Coding.{Coding}
 use Rattle.ftp_runs.specs.Script.{unread, is_over, start_of, script_of, after_event, start_script, idle, with_call, without_call, MayCancel}
-use Rattle.ftp_runs.specs.Following.{Attended, Attends, Grows, Happens, Passes, PassesIf, Place, Follows, Starts, PollsHere, parts_here}
+use Rattle.ftp_runs.specs.Following.{Attended, Attends, Happens, Passes, PassesIf, Place, Follows, Starts, PollsHere, parts_here}
 use Rattle.ftp_dialogue.specs.Steps.Polls.{polled_answer}
 use Rattle.ftp_dialogue.specs.Promises.{HasFault, FailsWith, play_state}
 use Rattle.ftp_runs.specs.Runs.{before_all}
