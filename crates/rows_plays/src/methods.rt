@@ -8,7 +8,6 @@ use crate::play::Play;
 use crate::session::{NamedSession, conn_of, encoded, stands, unread};
 use crate::transcript::RowState;
 use crate::transfers::{Held, Transfers};
-use ftp_base::status::Status;
 use ftp_base::types::{FtpError, FtpResult, Text};
 use ftp_session::session::{Answer, Call, Session, Setting};
 use ftp_transfer::Transfer;
@@ -95,7 +94,7 @@ pub fn greeted<'a>(alloc: Global, calls: &'a [Call], play: &Play) -> Result<Open
 fn again(alloc: Global, play: &Play) -> Result<Box<NamedSession>, RowError> {
     let mut session = unread(alloc, play)?;
     if play.dial.is_none() {
-        drop(session.read_response(alloc, Status::Ready));
+        drop(session.greet(alloc));
     }
     Ok(session)
 }
@@ -204,7 +203,7 @@ where
 {
     let alloc = rt.alloc();
     Ok(made_by_method!(call, session, alloc, (), {
-        Call::Greet => reply(session.read_response(alloc, Status::Ready)),
+        Call::Greet => unit(session.greet(alloc)),
         Call::ReadResponse(status) => reply(session.read_response(alloc, *status)),
         Call::ReadResponseIn(codes) => reply(session.read_response_in(alloc, codes.as_slice())),
         Call::RetrAsStream(_)

@@ -98,14 +98,8 @@ const ERRORS: [(ParseError, &str); 4] = [
         ParseError::SyntaxError,
         "Syntax error: invalid line: SyntaxError",
     ),
-    (
-        ParseError::InvalidDate,
-        "Invalid date: InvalidDate",
-    ),
-    (
-        ParseError::BadSize,
-        "Bad file size: BadSize",
-    ),
+    (ParseError::InvalidDate, "Invalid date: InvalidDate"),
+    (ParseError::BadSize, "Bad file size: BadSize"),
     (ParseError::OutOfMemory, "out of memory: OutOfMemory"),
 ];
 
