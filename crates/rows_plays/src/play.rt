@@ -177,8 +177,7 @@ impl Play {
 
     /// All bytes come, and they end.
     fn add_all(&mut self, alloc: Global) -> Result<(), RowError> {
-        let input = Bytes::from_slice(alloc, &self.input)?;
-        self.push(Event::Feed(input))?;
+        feed(alloc, &mut self.events, &self.input)?;
         self.push(Event::End)
     }
 
@@ -186,10 +185,10 @@ impl Play {
     fn feed(&mut self, alloc: Global, bytes: &str) -> Result<(), RowError> {
         let bytes = bytes_of(alloc, bytes)?;
         if !self.stepped {
-            return self.push(Event::Feed(Bytes::from_vec(bytes)));
+            return feed(alloc, &mut self.events, &bytes);
         }
         for byte in bytes.chunks(1) {
-            self.push(Event::Feed(Bytes::from_slice(alloc, byte)?))?;
+            feed(alloc, &mut self.events, byte)?;
             self.push(Event::Poll)?;
         }
         Ok(())
@@ -215,4 +214,10 @@ impl Play {
     fn push(&mut self, event: Event) -> Result<(), RowError> {
         Ok(self.events.push(event)?)
     }
+}
+
+/// Adds the event in which these bytes come.
+fn feed(alloc: Global, events: &mut Vec<Event>, bytes: &[u8]) -> Result<(), RowError> {
+    let bytes = Bytes::from_slice(alloc, bytes)?;
+    Ok(events.push(Event::Feed(bytes))?)
 }
