@@ -6,9 +6,9 @@ use ftp_session::session::{Answer, Call, NoTlsConnector, Setting};
 use ftp_transfer::mark::Left;
 use ftp_transport::MemoryTransport;
 use rows_plays::{
-    Held, Named, NamedSession, Opening, Play, RowBuilder, RowState, Transfers, boxed, bytes,
-    counted, features, greeted, had, lines, made_by_method, optional, recorded, reply, size, text,
-    texts_of, time, unit,
+    Held, Named, Opening, Play, RowBuilder, RowState, Transfers, boxed, bytes, count, counted,
+    features, greeted, had, lines, made_by_method, optional, recorded, reply, size, text, texts_of,
+    time, unit,
 };
 use rows_text::RowError;
 use std::alloc::{AllocError, Global};
@@ -61,19 +61,13 @@ impl Held for Live {
 }
 
 /// Whether rows can play each of these calls by the client's methods. The greeting can only be the first, which a
-/// session has read before the client is made; and what went out in an upload of one call is recorded by its session,
-/// which the client doesn't lend.
+/// session has read before the client is made.
 pub fn has_methods(calls: &[Call]) -> bool {
     let others = match calls.split_first() {
         Some((Call::Greet, others)) => others,
         _ => calls,
     };
-    !others.iter().any(|call| is_apart(call))
-}
-
-/// Whether a call reads the greeting, or uploads a whole file.
-fn is_apart(call: &Call) -> bool {
-    matches!(call, Call::Greet | Call::PutFile(..) | Call::AppendFile(..))
+    !others.iter().any(|call| matches!(call, Call::Greet))
 }
 
 /// Where these calls lead to, each made by the client's method.
@@ -86,7 +80,6 @@ where
         mut answers,
         others,
     } = greeted(rt.alloc(), calls, play)?;
-    let asked = asked(rt.alloc(), &session, play)?;
     let client = had(ImplFtpStream::new(rt.alloc(), Box::into_inner(session)))?;
     let client = boxed(rt.alloc(), client)?;
     if let Some(encoding) = play.encoding {
@@ -94,21 +87,11 @@ where
     }
     let uploaded = made(rt, &client, others, &mut answers)?;
     let mut end = stands(rt, &client, &answers)?;
-    end.asked = asked;
     end.uploaded = uploaded;
     Ok(end)
 }
 
-/// What the transport was asked until the client was made, which is all where no data connection is opened.
-fn asked(alloc: Global, session: &NamedSession, play: &Play) -> Result<Vec<String>, AllocError> {
-    if play.opens_data() {
-        return Ok(Vec::new(alloc));
-    }
-    recorded(alloc, session.transport().requests())
-}
-
-/// Makes these calls one after another, and adds their answers; what was written to the data connections that are over,
-/// but for those to which nothing was.
+/// Makes these calls one after another, and adds their answers; what was written to the data connections that are over.
 fn made<R>(
     rt: &R,
     client: &Client,
@@ -123,9 +106,7 @@ where
         let answer = make(rt, client, &mut transfers, call)?;
         transfers.add(call, answer, answers)?;
     }
-    let mut uploaded = transfers.take_uploaded(rt.alloc());
-    uploaded.retain(|sent| !sent.is_empty());
-    Ok(uploaded)
+    Ok(transfers.take_uploaded(rt.alloc()))
 }
 
 /// Makes a call by its method.
@@ -139,19 +120,19 @@ where
     R: Wait + RandomSource + AllocGlobal,
 {
     Ok(made_by_method!(call, client, rt, (), {
-        Call::Greet | Call::PutFile(..) | Call::AppendFile(..) => {
-            return Err(RowError::NotUnderstood);
-        }
+        Call::Greet => return Err(RowError::NotUnderstood),
         Call::ReadResponse(status) => reply(client.read_response(rt, *status)),
         Call::ReadResponseIn(codes) => reply(client.read_response_in(rt, codes.as_slice())),
         Call::RetrAsStream(_)
         | Call::PutWithStream(_)
         | Call::AppendWithStream(_)
         | Call::CustomDataCommand(..) => open(rt, client, transfers, call)?,
-        Call::Retr(path) => bytes(client.retr_as_buffer(rt, path.as_str())),
-        Call::List(path) => lines(client.list(rt, optional(path))),
-        Call::Nlst(path) => lines(client.nlst(rt, optional(path))),
-        Call::Mlsd(path) => lines(client.mlsd(rt, optional(path))),
+        Call::Retr(_)
+        | Call::List(_)
+        | Call::Nlst(_)
+        | Call::Mlsd(_)
+        | Call::PutFile(..)
+        | Call::AppendFile(..) => carry(rt, client, transfers, call)?,
         Call::Set(setting) => set(rt, client, setting)?,
         Call::Read(most) => transfers.receive(rt, *most)?,
         Call::Write(bytes) => transfers.send(rt, bytes.as_slice()),
@@ -180,6 +161,33 @@ fn open<R: Wait + AllocGlobal>(
         )),
         _ => return Err(RowError::NotUnderstood),
     })
+}
+
+/// Carries a whole file or listing, and notes what was written to its data connection once it is over.
+fn carry<R: Wait + AllocGlobal>(
+    rt: &R,
+    client: &Client,
+    transfers: &mut Transfers<Live>,
+    call: &Call,
+) -> Result<Answer, RowError> {
+    let before = client.get_ref(rt).transport().uploaded().len();
+    let answer = match call {
+        Call::Retr(path) => bytes(client.retr_as_buffer(rt, path.as_str())),
+        Call::List(path) => lines(client.list(rt, optional(path))),
+        Call::Nlst(path) => lines(client.nlst(rt, optional(path))),
+        Call::Mlsd(path) => lines(client.mlsd(rt, optional(path))),
+        Call::PutFile(path, source) => {
+            count(client.put_file(rt, path.as_str(), &mut source.as_slice()))
+        }
+        Call::AppendFile(path, source) => {
+            count(client.append_file(rt, path.as_str(), &mut source.as_slice()))
+        }
+        _ => return Err(RowError::NotUnderstood),
+    };
+    let control = client.get_ref(rt);
+    transfers.note(rt.alloc(), control.transport().uploaded(), before)?;
+    drop(control);
+    Ok(answer)
 }
 
 /// Brings a transfer to its end.
@@ -236,12 +244,13 @@ fn stands<R: Wait + AllocGlobal>(
     answers: &[Answer],
 ) -> Result<RowState, RowError> {
     let Shown {
+        asked,
         sent,
         taken,
         counts,
     } = traffic(rt, client)?;
     Ok(RowState {
-        asked: Vec::new(rt.alloc()),
+        asked,
         uploaded: Vec::new(rt.alloc()),
         sent,
         answers: texts_of(rt.alloc(), answers)?,
@@ -259,19 +268,22 @@ fn has_failed(answer: FtpResult<()>) -> bool {
     has_failed
 }
 
-/// What a control connection shows: what was sent, how many bytes the replies have consumed, and its transfers.
+/// What a client shows under its lock: what its transport was asked, what was sent, how many bytes the replies have
+/// consumed, and its transfers.
 #[derive(Drop)]
 struct Shown {
+    asked: Vec<String>,
     sent: Vec<u8>,
     taken: usize,
     counts: String,
 }
 
-/// What a client's control connection shows.
+/// What a client shows under its lock.
 fn traffic<R: Wait + AllocGlobal>(rt: &R, client: &Client) -> Result<Shown, AllocError> {
     let control = client.get_ref(rt);
     let conn = control.socket();
     Ok(Shown {
+        asked: recorded(rt.alloc(), control.transport().requests())?,
         sent: Vec::from_slice(rt.alloc(), conn.sent())?,
         taken: conn.received().saturating_sub(control.untaken()),
         counts: counted(rt.alloc(), control.counts())?,

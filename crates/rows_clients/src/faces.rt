@@ -113,21 +113,6 @@ impl Face {
         }
     }
 
-    /// What is due of a row's transcript on it: a client doesn't show what its transport was asked, nor on which data
-    /// connections nothing was written, so where the row opens some the lines of that are left out.
-    pub fn due(self, alloc: Global, play: &Play, due: &str) -> Result<String, AllocError> {
-        if !matches!(self, Face::Client) || !play.opens_data() {
-            return String::from_str(alloc, due);
-        }
-        let mut left = String::new(alloc);
-        for line in due.split_inclusive('\n') {
-            if !is_request(line) && line != "U:\n" {
-                left.push_str(line)?;
-            }
-        }
-        Ok(left)
-    }
-
     /// What a row results in.
     pub fn play<R: Wait + RandomSource + AllocGlobal>(
         self,
@@ -250,10 +235,4 @@ pub fn answers_of(alloc: Global, transcript: &str) -> Result<String, AllocError>
         }
     }
     Ok(answers)
-}
-
-/// Whether a line of a transcript is of what a transport was asked.
-fn is_request(line: &str) -> bool {
-    let starts = ["D: ", "B: ", "L: ", "P: "];
-    starts.iter().any(|start| line.starts_with(*start))
 }

@@ -108,8 +108,8 @@ impl<'a> Tally<'a> {
             return Ok(());
         }
         let came = face.play(rt, play, row.ending)?;
-        let due = face.due(rt.alloc(), play, row.due()?)?;
-        self.compare(rt, row, face, play, agreement, due.as_str(), &came)
+        let due = row.due()?;
+        self.compare(rt, row, face, play, agreement, due, &came)
     }
 
     /// Counts a play, and prints it where it differs from what is due.
