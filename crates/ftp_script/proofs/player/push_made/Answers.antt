@@ -13,7 +13,7 @@ returns-clause-makes c =
     let r : Runs memory utf8 c.from_ref.result.now old new c.in-Ok.answers.items = rw (c.requires.encoding, c.requires.builder, unmarked _ _ c.args.session.now.machine c.requires.mark c.in-Ok.ensures.looks) at c.in-Ok.ensures.runs in
     let before : length c.sent-before.result.now ≡ length old.channel.told.sent = ap length (c.sent-before.ensures ∙ ap (λ t. t.sent) c.get_ref.ensures) in
     let sent : c.sent_after-sent.result.now ≡ drop (length old.channel.told.sent) new.channel.told.sent = c.sent_after-sent.ensures ∙ ap (λ n. drop n new.channel.told.sent) before in
-    let asked_before : length c.asked-asked.result.now ≡ length old.net.asked = ap length (c.asked-asked.ensures ∙ c.transport.ensures.asked) in
+    let asked_before : length c.requests-asked.result.now ≡ length old.net.asked = ap length (c.requests-asked.ensures ∙ c.transport.ensures.asked) in
     let asked : c.asked_after.result.now ≡ drop (length old.net.asked) new.net.asked = c.asked_after.ensures ∙ ap (λ n. drop n new.net.asked) asked_before in
     let only : c.in-Ok.answers.items ≡ answer ∷ [] = only_item c.in-Ok.answers.items answer (c.in-Ok.ensures.count ∙ c.from_ref.ensures.len) ∙ ap (λ a. a ∷ []) (sym c.index.ensures) in
     made_one c.push_call.result c.args.call.now old new answer c.sent_after-sent.result.now c.asked_after.result.now c.args.text.now.items c.push_call.new.text.items sent asked
