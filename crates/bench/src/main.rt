@@ -1,80 +1,62 @@
-//! Reads listing lines from standard input and parses each as often as the first argument says,
-//! in the form that the second names: `posix`, `dos`, `mlsd`, or `any` for each form in turn.
-//! Standard output gets how many were files, directories, links and errors, standard error the
-//! lines parsed in a second.
+//! Measures the clients against a server of its own on 127.0.0.1, or the parsers of listings.
+//!
+//! The words are pairs, a kind of run and its amount, as `download 256 list 20000`; those of the blocking client are run in
+//! turn, in one session, and then those of the polled one. `download` and `buffer` fetch so many MiB, by a stream and whole;
+//! `upload` sends so many MiB, `put` so many from a reader, `text` so many as lines of text, which `convert` converts in memory
+//! alone; `list` lists so many lines, and `files` fetches so many files of 1 KiB. `polled-download`, `polled-put` and
+//! `polled-files` are the polled client's. Standard output gets what was carried, standard error the times.
+//!
+//! `parse TIMES FORM` reads lines of listings from standard input. Without words nothing is measured, and the status is 1.
 #![tactic(auto)]
 
-use anyhow::{Context, Result};
-use ftp_list::{File, ListParser, ParseResult};
-use jiff::Timestamp;
-use std::alloc::Global;
-use std::env;
-use std::io::{BufRead, BufReader};
-use std::time::{Duration, Instant};
+mod download;
+mod figures;
+mod listing;
+mod parsing;
+mod pieces;
+mod plan;
+mod polled;
+mod server;
+mod session;
+mod text;
+mod ticks;
+mod upload;
 
-/// What the lines were.
-#[derive(Clone, Copy, Default)]
-struct Counts {
-    files: u64,
-    directories: u64,
-    links: u64,
-    refusals: u64,
-}
-
-impl Counts {
-    fn add(&mut self, answer: &ParseResult<File>) {
-        let count = match answer {
-            Ok(file) if file.is_directory() => &mut self.directories,
-            Ok(file) if file.is_symlink() => &mut self.links,
-            Ok(_) => &mut self.files,
-            Err(_) => &mut self.refusals,
-        };
-        *count = count.saturating_add(1);
-    }
-}
-
-fn parse(alloc: Global, form: &str, line: &str, now: Timestamp) -> ParseResult<File> {
-    match form {
-        "posix" => ListParser::parse_posix(alloc, line, now),
-        "dos" => ListParser::parse_dos(alloc, line),
-        "mlsd" => ListParser::parse_mlsd(alloc, line),
-        _ => File::from_line(alloc, line, now),
-    }
-}
-
-fn count_all(alloc: Global, form: &str, lines: &[String], times: u32, now: Timestamp) -> Counts {
-    let mut counts = Counts::default();
-    for _ in 0..times {
-        for line in lines {
-            counts.add(&parse(alloc, form, line.as_str(), now));
-        }
-    }
-    counts
-}
-
-fn per_second(lines: u64, taken: Duration) -> u64 {
-    let millis = u64::try_from(taken.as_millis()).unwrap_or(u64::MAX).max(1);
-    lines.saturating_mul(1000) / millis
-}
+use anyhow::{Context, Result, bail};
+use std::net::{TcpListener, TcpStream};
+use std::{env, thread};
 
 fn main(rt: HostRuntime) -> Result<()> {
-    let mut arguments = env::args(&rt)?.skip(1);
-    let times = arguments.next().context("no number of times")?;
-    let times: u32 = times.parse().context("the number of times")?;
-    let form = arguments.next().context("no form")?;
-    let mut lines = Vec::new(rt.alloc());
-    for line in BufReader::new(rt.alloc(), rt.reader())?.lines(rt.alloc()) {
-        lines.push(line?)?;
+    let words: Vec<String> = env::args(&rt)?.skip(1).collect(rt.alloc())?;
+    match words.as_slice() {
+        [] => bail!("usage: bench KIND AMOUNT .. | bench parse TIMES FORM"),
+        [first, times, form] if first.as_str() == "parse" => {
+            parsing::run(&rt, times.as_str(), form.as_str())
+        }
+        kinds => measure_clients(rt, kinds),
     }
-    let now = Timestamp::from_second(1_704_844_800).context("the present")?;
-    let start = Instant::now(&rt)?;
-    let counts = count_all(rt.alloc(), form.as_str(), &lines, times, now);
-    let taken = start.elapsed(&rt)?;
-    println!(rt; "files {}", counts.files)?;
-    println!(rt; "directories {}", counts.directories)?;
-    println!(rt; "links {}", counts.links)?;
-    println!(rt; "refusals {}", counts.refusals)?;
-    let parsed = (lines.len() as u64).saturating_mul(u64::from(times));
-    eprintln!(rt; "{} lines a second", per_second(parsed, taken))?;
+}
+
+/// Measures the clients.
+fn measure_clients(rt: HostRuntime, words: &[String]) -> Result<()> {
+    let plan = plan::read(rt.alloc(), words)?;
+    let listener = TcpListener::bind(&rt, "127.0.0.1:0")?;
+    let data = TcpListener::bind(&rt, "127.0.0.1:0")?;
+    // Both ends stand before there is a thread, so neither side waits for one that never comes.
+    let near = TcpStream::connect(&rt, listener.local_addr()?)?;
+    let (far, _peer) = listener.accept()?;
+    let polled_near = TcpStream::connect(&rt, listener.local_addr()?)?;
+    let (polled_far, _peer) = listener.accept()?;
+    let server = thread::spawn(&rt, move || {
+        server::serve_both(rt.alloc(), far, polled_far, &data)
+    })?;
+    let outcome = session::run_all(&rt, near, &plan);
+    let polled = polled::run_all(&rt, polled_near, &plan);
+    // The clients are gone by now, which ends the server, too.
+    let received = server.join(&rt);
+    outcome.context("the blocking client")?;
+    polled.context("the polled client")?;
+    let received = received.context("the server")?;
+    println!(rt; "server: {received} bytes received")?;
     Ok(())
 }

@@ -53,3 +53,11 @@ converted after (byte ∷ bytes) = on_wire after byte ++ converted (byte == 13) 
 abbrev pub last_return : Bool → List ℕ → Bool
 last_return after [] = after
 last_return after (byte ∷ bytes) = last_return (byte == 13) bytes
+
+-- the bytes of a file as they go over a data connection: a text's lines end in CR LF
+abbrev pub wire_data : Bool → List ℕ → List ℕ
+wire_data text bytes = if text then crlf bytes else bytes
+
+-- the most bytes that a file may have there
+abbrev pub most_bytes : ℕ
+most_bytes = 9223372036854775807

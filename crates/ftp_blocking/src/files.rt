@@ -3,7 +3,8 @@
 use super::ImplFtpStream;
 use ftp_base::encoding::Encoding;
 use ftp_base::types::FtpResult;
-use ftp_session::session::{DownloadReader, Progress};
+use ftp_session::session::DownloadReader;
+use ftp_transfer::Progress;
 use ftp_transport::{Conn, Network, PassiveStreamBuilder, Transport};
 use std::io::{Read, Write};
 use std::sync::Wait;

@@ -3,7 +3,7 @@
 ghost use Rattle.std.specs.Prelude.{◌≡◌, ◌≤◌, ◌⊎◌, length, map, string_bytes, IfOk, IfErr, IfSome, OnOk};
 ghost use Rattle.std.specs.Io.KnownBytes.{IsAtEnd};
 ghost use Rattle.std.specs.Str.Lossy.{utf8_lossy};
-ghost use Rattle.ftp_answers.specs.Listing.{listing};
+ghost use Rattle.ftp_calls.specs.Listing.{listing};
 
 use super::ImplFtpStream;
 use ftp_base::encoding::Encoding;
@@ -32,6 +32,6 @@ impl<Tr: Network, K: Drop, E: Encoding, B: Drop> ImplFtpStream<Tr, K, E, B> {
         ensures faults { IfErr result
             (λ fault. (fault ≡ FtpError.BadResponse) ⊎ (fault ≡ FtpError.OutOfMemory)) }
     {
-        ftp_answers::get_lines_from_stream(rt.alloc(), stream)
+        ftp_calls::answers::get_lines_from_stream(rt.alloc(), stream)
     }
 }

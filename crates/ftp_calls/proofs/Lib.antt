@@ -1,1 +1,12 @@
+pub mod AddressFacts
+pub mod DateFacts
+pub mod LineFacts
+pub mod ListingFacts
+pub mod NumberFacts
 pub mod Openings
+pub mod PieceFacts
+pub mod PlaceFacts
+pub mod PortFacts
+pub mod QuoteFacts
+pub mod SizeFacts
+pub mod TimeFacts

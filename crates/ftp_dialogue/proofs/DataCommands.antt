@@ -14,8 +14,8 @@ use Rattle.ftp_base.specs.declared.types.fault.ConnectionError.TheVariants.{Repl
 use Rattle.ftp_base.specs.declared.types.mode.Mode.{Mode}
 use Rattle.ftp_base.specs.declared.types.mode.Mode.TheVariants as mode
 use Rattle.ftp_base.specs.declared.types.reply.Response.{Response}
-use Rattle.ftp_answers.specs.Addresses.{passive_address_of, extended_port_of}
-use Rattle.ftp_answers.specs.declared.addresses.NoAddress.{NoAddress}
+use Rattle.ftp_calls.specs.Addresses.{passive_address_of, extended_port_of}
+use Rattle.ftp_calls.specs.declared.answers.addresses.NoAddress.{NoAddress}
 use Rattle.ftp_calls.proofs.Openings.{opens_alike}
 use Rattle.ftp_calls.specs.Exchanges.{finishes, is_local, is_opening, negotiates, opens, restarts, row_of}
 use Rattle.ftp_calls.specs.declared.call.Answer.{Answer}
@@ -45,7 +45,8 @@ use Rattle.ftp_transport.specs.declared.room.Room.{Room}
 use Rattle.ftp_dialogue.proofs.Sorts.{finishing_opens, opens_drains_none, opens_no_local, unheld_call}
 use Rattle.ftp_dialogue.specs.Coding.{Coding}
 use Rattle.ftp_dialogue.specs.NetEvents.{answers, constructed, constructing, during_request, after_request, moved, secured, securing as securing_now, settled}
-use Rattle.ftp_dialogue.specs.Dialogue.{Here, There, Tree, Say, Hear, Look, Ask, Build, Secure, Move, Leaf, accepting, admitting, opening_data, at_port, awaiting, closed_as, concluded, connecting_to, connecting_to_peer, dialogue, doing, entered, expected_of, fetch_concluded, fetch_closing_data, fetched, from_turn, gathering, last_turn, later, lets_in, most_bytes, most_reads, negotiating, negotiating_unless, on_address, on_built, on_connection, on_data, on_sent, opened_answer, opened_from, opening, performing, restart_turn, saying, securing, sending, sending_all, size_to_send, strangers, to_address, to_port, told_of_close, too_long, unfetched, wire_data, with_left, with_transfer, closing_data, wants_memory, with_abandoned, with_fetched}
+use Rattle.ftp_dialogue.specs.Dialogue.{Here, There, Tree, Say, Hear, Look, Ask, Build, Secure, Move, Leaf, accepting, admitting, opening_data, at_port, awaiting, closed_as, concluded, connecting_to, connecting_to_peer, dialogue, doing, entered, expected_of, fetch_concluded, fetch_closing_data, fetched, from_turn, gathering, last_turn, later, lets_in, most_reads, negotiating, negotiating_unless, on_address, on_built, on_connection, on_data, on_sent, opened_answer, opened_from, opening, performing, restart_turn, saying, securing, sending, sending_all, size_to_send, strangers, to_address, to_port, told_of_close, too_long, unfetched, with_left, with_transfer, closing_data, wants_memory, with_abandoned, with_fetched}
+use Rattle.ftp_base.specs.Ascii.{most_bytes, wire_data}
 use Rattle.ftp_dialogue.specs.Laws.{AsksPeerAlone, LeadsTo, UsesPeerHost, offset_after, reached}
 use Rattle.ftp_dialogue.specs.Play.{Lacking, asked_then, built_then, finally, fits, heard_then, lacks, leaving, moved_then, secured_then, play, play_call, play_unless, refusal, refused_if_failed, taken}
 use Rattle.ftp_dialogue.specs.Sound.{cannot_beside, cannot_open}

@@ -32,7 +32,8 @@ use Rattle.ftp_dialogue.specs.declared.state.State.{State}
 use Rattle.ftp_dialogue.specs.Coding.{Coding}
 use Rattle.ftp_dialogue.specs.NetEvents.{MovementIs, Net, ReadIs, answers}
 use Rattle.ftp_dialogue.specs.Gathering.{GrowsBy}
-use Rattle.ftp_dialogue.specs.Dialogue.{Tree, Move, Leaf, chunk, closed_as, expecting, fetch_concluded, fetch_ending, fetch_closing_data, fetched, fetching, first_fault, gathering, grown, most_bytes, most_reads, on_data, sending, told_of_close, too_long, unfetched, wants_memory, with_abandoned, with_fetched}
+use Rattle.ftp_dialogue.specs.Dialogue.{Tree, Move, Leaf, chunk, closed_as, expecting, fetch_concluded, fetch_ending, fetch_closing_data, fetched, fetching, first_fault, gathering, grown, most_reads, on_data, sending, told_of_close, too_long, unfetched, wants_memory, with_abandoned, with_fetched}
+use Rattle.ftp_base.specs.Ascii.{most_bytes}
 use Rattle.ftp_dialogue.specs.Link.{Link}
 use Rattle.ftp_dialogue.specs.Promises.{Aborts, AbortsRead, FailsRead, IsFault, Untouched, failed_from, state_at}
 use Rattle.ftp_dialogue.specs.State.{SessionValue}

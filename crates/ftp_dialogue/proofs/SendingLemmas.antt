@@ -26,7 +26,8 @@ use Rattle.ftp_dialogue.specs.declared.state.State.{State}
 use Rattle.ftp_dialogue.specs.Coding.{Coding}
 use Rattle.ftp_dialogue.specs.NetEvents.{Net, WriteIs, answers}
 use Rattle.ftp_dialogue.specs.Sending.{SendsBy}
-use Rattle.ftp_dialogue.specs.Dialogue.{Tree, Move, Leaf, fetch_closing_data, giving_up, most_bytes, on_sent, sending, sending_all, size_to_send, storing, wire_data, with_abandoned}
+use Rattle.ftp_dialogue.specs.Dialogue.{Tree, Move, Leaf, fetch_closing_data, giving_up, on_sent, sending, sending_all, size_to_send, storing, with_abandoned}
+use Rattle.ftp_base.specs.Ascii.{most_bytes, wire_data}
 use Rattle.ftp_dialogue.specs.Link.{Link}
 use Rattle.ftp_dialogue.specs.State.{SessionValue}
 use Rattle.ftp_dialogue.specs.Steps.Moving.{AsksFirst, BreaksOff, Moves, MovesBy, Sends, Still}

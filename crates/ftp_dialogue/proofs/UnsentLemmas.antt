@@ -3,10 +3,10 @@ use Rattle.std.proofs.Common.{◌≡◌, ◌≤◌, ◌<◌, ◌+◌, ◌-◌, �
 use Rattle.std.specs.Prelude.{slice_index}
 use Rattle.std.proofs.lemmas.Bool.{eqb-false, eqb-true, le-leb, leb-true, ne_eqb}
 use Rattle.std.proofs.lemmas.List.{length-drop, length-take-le, take-append-drop, take_at}
-use Rattle.ftp_base.specs.Ascii.{converted, last_return}
+use Rattle.ftp_base.specs.Ascii.{converted, last_return, most_bytes, wire_data}
 use Rattle.ftp_base.proofs.AsciiLemmas.{converted-append, crlf-converted, front_plain}
 use Rattle.ftp_dialogue.specs.Sending.{IsPlain, MayEnd, on_wire}
-use Rattle.ftp_dialogue.specs.Dialogue.{most_bytes, size_to_send, wire_data}
+use Rattle.ftp_dialogue.specs.Dialogue.{size_to_send}
 
 -- where none has gone out
 pub wire_start : (text : Bool) (bytes : List ℕ) → on_wire text false bytes ≡ wire_data text bytes

@@ -63,12 +63,12 @@ use Rattle.ftp_dialogue.specs.Coding.{Coding}
 use Rattle.ftp_calls.specs.declared.exchange.Codes.{Codes}
 use Rattle.ftp_calls.specs.declared.exchange.Codes.TheVariants.{One, Either, Given, Features}
 use Rattle.ftp_calls.specs.Exchanges.{row_of, aborts, finishes, negotiates, restarts, uploads}
-use Rattle.ftp_answers.specs.Answers.{path_of, second_line_of, size_of, features_in}
-use Rattle.ftp_answers.specs.Times.{time_of}
-use Rattle.ftp_answers.specs.Listing.{listing}
-use Rattle.ftp_answers.specs.Addresses.{passive_address_of, extended_port_of}
-use Rattle.ftp_answers.specs.declared.addresses.NoAddress.{NoAddress}
-use Rattle.ftp_answers.specs.declared.addresses.NoAddress.TheVariants.{Absent, Unreadable}
+use Rattle.ftp_calls.specs.Answers.{path_of, second_line_of, size_of, features_in}
+use Rattle.ftp_calls.specs.Times.{time_of}
+use Rattle.ftp_calls.specs.Listing.{listing}
+use Rattle.ftp_calls.specs.Addresses.{passive_address_of, extended_port_of}
+use Rattle.ftp_calls.specs.declared.answers.addresses.NoAddress.{NoAddress}
+use Rattle.ftp_calls.specs.declared.answers.addresses.NoAddress.TheVariants.{Absent, Unreadable}
 use Rattle.ftp_dialogue.specs.Unanswered.{after_faulty, answered_by}
 use Rattle.ftp_dialogue.specs.Sound.{cannot_open, some_live, left_behind, one_aborted, one_drained, one_finished, one_more}
 
@@ -357,13 +357,9 @@ closed_as (Some kind) answer = Fault (Connection (Io kind))
 abbrev pub fetch_closing_data : Fetch → Answer → State → Tree
 fetch_closing_data form answer state = Move movement.Close (λ came. fetch_ending form (closed_as (told_of_close state.uploads came) answer) state)
 
--- so many bytes one read asks for; more than so many can't be held; so many reads are enough, since each gives a byte
--- but the last
+-- so many bytes one read asks for; so many reads are enough, since each gives a byte but the last
 abbrev pub chunk : ℕ
 chunk = 65536
-
-abbrev pub most_bytes : ℕ
-most_bytes = 9223372036854775807
 
 abbrev pub most_reads : ℕ
 most_reads = 9223372036854775808
@@ -391,10 +387,6 @@ abbrev pub fetching : Coding → Fetch → State → Tree
 fetching coding form state = gathering coding form most_reads [] state
 
 -- A whole upload: RFC 959, sections 3.1.1.1 and 4.1.3 (STOR, APPE)
-
--- the bytes of a file as they go over the data connection: a text's lines end in CR LF
-abbrev pub wire_data : Bool → List ℕ → List ℕ
-wire_data text bytes = if text then crlf bytes else bytes
 
 -- where bytes can't be sent the transfer is left, and its last reply isn't heard
 abbrev pub giving_up : FtpError → State → Tree

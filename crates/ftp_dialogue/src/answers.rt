@@ -1,19 +1,19 @@
 //! The answers that the text of a reply gives.
 //!
 //! A reply of an accepted status may still not hold what was asked for: then the answer is an error, and the session
-//! goes on. `ftp_answers` reads the texts.
+//! goes on. `ftp_calls` reads the texts.
 
 ghost use Rattle.std.specs.Prelude.{◌≡◌, IfOk};
-ghost use Rattle.ftp_answers.specs.Answers.{features_in, path_of, second_line_of, size_of};
-ghost use Rattle.ftp_answers.specs.Times.{time_of};
+ghost use Rattle.ftp_calls.specs.Answers.{features_in, path_of, second_line_of, size_of};
+ghost use Rattle.ftp_calls.specs.Times.{time_of};
 ghost use Rattle.ftp_calls.specs.Exchanges.{Lists, Sizes, Texts, Times};
 ghost use Rattle.ftp_dialogue.specs.Dialogue.{features_answer, line_answer, path_answer, size_answer, time_answer};
 ghost use Rattle.ftp_dialogue.specs.Steps.Stages.{AnswersKind};
 
 use super::Answer;
-use ftp_answers::{read_features, read_path, read_second_line, read_size, read_time};
 use ftp_base::encoding::Encoding;
 use ftp_base::types::{FtpError, Response};
+use ftp_calls::answers::{read_features, read_path, read_second_line, read_size, read_time};
 use std::alloc::{AllocError, Global};
 
 /// The path between the quotes of a reply; `UnexpectedResponse` where there are fewer than two.

@@ -4,8 +4,8 @@
 //! no memory is needed for the bytes as they go out.
 
 ghost use Rattle.std.specs.Prelude.{◌≡◌, ◌≢◌, ◌<◌, ◌≤◌, ◌+◌, ◌==◌, ◌&&◌, Bool, true, false, not, length, slice_index, if◌then◌else◌};
-ghost use Rattle.ftp_base.specs.Ascii.{converted};
-ghost use Rattle.ftp_dialogue.specs.Dialogue.{size_to_send, wire_data};
+ghost use Rattle.ftp_base.specs.Ascii.{converted, wire_data};
+ghost use Rattle.ftp_dialogue.specs.Dialogue.{size_to_send};
 ghost use Rattle.ftp_dialogue.specs.Sending.{IsPlain, MayEnd};
 
 use super::asks::Asks;

@@ -4,14 +4,13 @@ ghost use Rattle.std.specs.Prelude.{◌≡◌, ◌≢◌, Some};
 ghost use Rattle.futures.specs.Task.{IsArmed, Keeps};
 
 use crate::client::ImplAsyncFtpStream;
-use crate::copying::{STEPS, behind, front, io_fault};
 use crate::retrieve::{RetrReader, Retrieve};
 use ftp_base::ascii::upload_size;
 use ftp_base::encoding::Encoding;
 use ftp_base::retry::RETRIES;
 use ftp_base::types::{FtpError, FtpResult};
-use ftp_session::session::Progress;
-use ftp_transfer::Transfer;
+use ftp_copying::{STEPS, behind, front, io_fault};
+use ftp_transfer::{Progress, Transfer};
 use ftp_transport::{PollConn, TaskConn, TaskTransport};
 use futures::task::{Context, Poll};
 use std::alloc::Global;

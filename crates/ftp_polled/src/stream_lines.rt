@@ -1,11 +1,11 @@
 //! The state that reads the lines of a listing from a stream.
 
 use crate::client::ImplAsyncFtpStream;
-use crate::copying::front;
-use ftp_answers::read_listing;
 use ftp_base::encoding::{Encoding, Utf8Encoding};
 use ftp_base::retry::RETRIES;
 use ftp_base::types::{ConnectionError, FtpError, FtpResult};
+use ftp_calls::answers::read_listing;
+use ftp_copying::front;
 use ftp_transport::{TaskConn, TaskTransport};
 use futures::Future;
 use futures::task::{Context, Poll};

@@ -4,14 +4,13 @@ ghost use Rattle.futures.specs.Poll.{OnPending};
 ghost use Rattle.futures.specs.Task.{IsArmed, Keeps};
 
 use crate::client::ImplAsyncFtpStream;
-use crate::copying::Copying;
 use crate::ending::Ending;
 use crate::opening::Opening;
 use ftp_base::encoding::Encoding;
 use ftp_base::types::{ConnectionError, FtpError, FtpResult};
 use ftp_calls::call::BorrowedCall;
-use ftp_session::session::{NoProgress, Progress};
-use ftp_transfer::{Direction, Transfer};
+use ftp_copying::Copying;
+use ftp_transfer::{Direction, NoProgress, Progress, Transfer};
 use ftp_transport::{PassiveStreamBuilder, PollConn, PollTransport, TaskConn, TaskTransport};
 use futures::Future;
 use futures::task::{Context, Poll};

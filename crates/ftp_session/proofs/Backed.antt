@@ -30,9 +30,9 @@ use Rattle.ftp_dialogue.specs.Sound.{cannot_open}
 use Rattle.ftp_transport.specs.declared.request.Request.TheVariants.{Connect}
 use Rattle.std.specs.declared.io.ErrorKind.{ErrorKind}
 use Rattle.std.specs.declared.net.socket_addr.SocketAddr.{SocketAddr}
-use Rattle.ftp_answers.specs.Addresses.{passive_address_of, extended_port_of}
-use Rattle.ftp_answers.specs.declared.addresses.NoAddress.{NoAddress}
-use Rattle.ftp_answers.specs.declared.addresses.NoAddress.TheVariants.{Absent, Unreadable}
+use Rattle.ftp_calls.specs.Addresses.{passive_address_of, extended_port_of}
+use Rattle.ftp_calls.specs.declared.answers.addresses.NoAddress.{NoAddress}
+use Rattle.ftp_calls.specs.declared.answers.addresses.NoAddress.TheVariants.{Absent, Unreadable}
 use Rattle.ftp_base.specs.declared.types.mode.Mode.{Mode}
 use Rattle.ftp_base.specs.declared.types.mode.Mode.TheVariants as mode
 use Rattle.ftp_base.specs.declared.types.reply.Response.{Response}
@@ -46,7 +46,8 @@ use Rattle.ftp_calls.specs.declared.call.Answer.{Answer}
 use Rattle.ftp_calls.specs.declared.call.Answer.TheVariants.{Fault}
 use Rattle.ftp_calls.specs.declared.call.Answer.TheVariants as answer
 use Rattle.ftp_dialogue.specs.Counted.{IsAmong, given_by}
-use Rattle.ftp_dialogue.specs.Dialogue.{Tree, Say, Hear, Look, Ask, Build, Secure, Move, Leaf, aborting, accepting, admitting, after_fault_of, after_fetch, at_port, breaking_off, closed_as, closing, closing_data, concluded, connecting_to, connecting_to_peer, dialogue, doing, expected_of, fault_or, fetch_closing_data, fetch_concluded, fetch_ending, fetched, from_turn, gathering, last_turn, later, lets_in, most_bytes, most_reads, negotiating, negotiating_unless, on_address, on_built, on_connection, on_data, opened_answer, opened_from, opening, opening_data, restart_turn, saying, securing, strangers, to_address, to_port, told_of_close, too_long, unfetched, with_aborted, with_fetched, with_finished, with_left, with_transfer}
+use Rattle.ftp_dialogue.specs.Dialogue.{Tree, Say, Hear, Look, Ask, Build, Secure, Move, Leaf, aborting, accepting, admitting, after_fault_of, after_fetch, at_port, breaking_off, closed_as, closing, closing_data, concluded, connecting_to, connecting_to_peer, dialogue, doing, expected_of, fault_or, fetch_closing_data, fetch_concluded, fetch_ending, fetched, from_turn, gathering, last_turn, later, lets_in, most_reads, negotiating, negotiating_unless, on_address, on_built, on_connection, on_data, opened_answer, opened_from, opening, opening_data, restart_turn, saying, securing, strangers, to_address, to_port, told_of_close, too_long, unfetched, with_aborted, with_fetched, with_finished, with_left, with_transfer}
+use Rattle.ftp_base.specs.Ascii.{most_bytes}
 use Rattle.ftp_dialogue.specs.Within.{IsOfBytes, MayHear, Within}
 use Rattle.ftp_dialogue.specs.declared.model.NetOutcome.{NetOutcome}
 use Rattle.ftp_dialogue.specs.declared.model.NetOutcome.TheVariants as came

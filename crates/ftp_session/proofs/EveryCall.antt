@@ -21,7 +21,8 @@ use Rattle.ftp_calls.specs.declared.exchange.Ending.TheVariants as ending
 use Rattle.ftp_calls.specs.declared.exchange.Fetch.TheVariants.{Whole}
 use Rattle.ftp_calls.specs.declared.exchange.Task.TheVariants as task
 use Rattle.ftp_dialogue.specs.Coding.{Coding}
-use Rattle.ftp_dialogue.specs.Dialogue.{Tree, Leaf, Move, carrying, concluded, dialogue, doing, giving_up, moved_answer, on_sent, opened_from, sending, sending_all, size_to_send, storing, wire_data, with_abandoned}
+use Rattle.ftp_dialogue.specs.Dialogue.{Tree, Leaf, Move, carrying, concluded, dialogue, doing, giving_up, moved_answer, on_sent, opened_from, sending, sending_all, size_to_send, storing, with_abandoned}
+use Rattle.ftp_base.specs.Ascii.{wire_data}
 use Rattle.ftp_dialogue.specs.Within.{MayHear}
 use Rattle.ftp_dialogue.specs.declared.model.NetOutcome.{NetOutcome}
 use Rattle.ftp_dialogue.specs.declared.model.NetOutcome.TheVariants as came

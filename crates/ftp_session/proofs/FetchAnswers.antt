@@ -18,7 +18,8 @@ use Rattle.ftp_calls.specs.declared.exchange.Row.{Row}
 use Rattle.ftp_calls.specs.declared.exchange.Task.TheVariants as tasks
 use Rattle.ftp_transfer.specs.Mark.{End}
 use Rattle.ftp_dialogue.specs.Coding.{Coding}
-use Rattle.ftp_dialogue.specs.Dialogue.{Tree, Leaf, closed_as, concluded, doing, fetch_concluded, fetch_closing_data, fetched, gathering, last_turn, most_bytes, most_reads, on_data, performing, told_of_close, too_long, unfetched}
+use Rattle.ftp_dialogue.specs.Dialogue.{Tree, Leaf, closed_as, concluded, doing, fetch_concluded, fetch_closing_data, fetched, gathering, last_turn, most_reads, on_data, performing, told_of_close, too_long, unfetched}
+use Rattle.ftp_base.specs.Ascii.{most_bytes}
 use Rattle.ftp_dialogue.specs.Link.{Link}
 use Rattle.ftp_dialogue.specs.State.{SessionValue}
 use Rattle.ftp_dialogue.specs.declared.model.NetOutcome.{NetOutcome}

@@ -3,7 +3,7 @@ use Rattle.std.proofs.Common.{◌≡◌, ℕ, Bool, true, false, List, Option, S
 use Rattle.std.specs.Prelude.{IfErr}
 use Rattle.std.specs.Io.KnownBytes.{Appends}
 use Rattle.std.specs.declared.io.ErrorKind.{ErrorKind}
-use Rattle.ftp_base.specs.Ascii.{AppendsFront, IsCopyFault}
+use Rattle.ftp_base.specs.Ascii.{AppendsFront, IsCopyFault, wire_data}
 use Rattle.ftp_base.specs.declared.types.fault.ConnectionError.TheVariants as cause
 use Rattle.ftp_base.specs.declared.types.fault.FtpError.{FtpError}
 use Rattle.ftp_base.specs.declared.types.fault.FtpError.TheVariants as faults
@@ -19,15 +19,14 @@ use Rattle.ftp_transfer.specs.declared.direction.Direction.{Direction}
 use Rattle.ftp_transfer.specs.declared.direction.Direction.TheVariants.{Download, Upload}
 use Rattle.ftp_dialogue.specs.Coding.{Coding}
 use Rattle.ftp_dialogue.specs.Counted.{CountsFailure, CountsFaultsBeside, IsGivenBeside}
-use Rattle.ftp_dialogue.specs.Dialogue.{wire_data}
 use Rattle.ftp_dialogue.specs.Link.{Link}
 use Rattle.ftp_dialogue.specs.Sound.{cannot_open}
 use Rattle.ftp_dialogue.specs.State.{SessionValue}
-use Rattle.ftp_session.specs.Copying.{Copies, GaveUp, Hinders, Wrote, WroteFront}
+use Rattle.ftp_transfer.specs.Copying.{Copies, GaveUp, Hinders, Wrote, WroteFront}
 use Rattle.ftp_session.specs.Counting.{CopyStops, CountsDownload, CountsSaving, CountsUpload, CountsWhole, GivesOn, OnOpened, SaveStops}
-use Rattle.ftp_session.specs.Files.{EndsUpload, FinishesWhole, OpensAndReads, OpensAndStores, Puts, PutsFrom, Retrieves, RetrievesFrom, failed_if, first_of, lacks_memory, unless_failed}
+use Rattle.ftp_session.specs.Files.{EndsUpload, FinishesWhole, OpensAndReads, OpensAndStores, Puts, PutsFrom, Retrieves, RetrievesFrom, failed_if, first_of, lacks_memory, unless_failed, OpensAndReceives, WritesFrom, WritesTo}
 use Rattle.ftp_session.specs.Handed.{OpensOne, as_seen, with_data}
-use Rattle.ftp_session.specs.Saving.{EndsEarly, OpensAndReceives, SaveFails, Saves, StopsAt, WritesFrom, WritesTo}
+use Rattle.ftp_transfer.specs.Saving.{EndsEarly, SaveFails, Saves, StopsAt}
 use Rattle.ftp_session.proofs.Backed.{OpensOnly}
 use Rattle.ftp_session.proofs.CaughtUp.{caught_on}
 use Rattle.ftp_session.proofs.Failures.{Caught, none_then}

@@ -27,3 +27,11 @@ module _ (opens ends : Link) (coding : Coding) (call : Call) (mark marked after 
     looks = opened.looks;
     goes_on = inl (record { transfer = transfer; marked = marked; given = given; opened = opened.goes_on; over = over; read = read; reads = reads; ended = ended; ends_it = ends_it; is = is });
   }
+
+-- a call opened a download, and it went to a writer
+pub writes_on : (opens ends : Link) (coding : Coding) (call : Call) (mark marked after former kept : Option End) (old given new : SessionValue) (transfer : TransferValue) (writer writer' : Option (List ℕ)) (result : Result ℕ FtpError) → Opens opens coding call Download mark marked former kept old given (Ok transfer) → Receives ends coding writer writer' transfer marked after given new result → WritesTo opens ends coding call writer writer' mark after former kept old new result
+writes_on opens ends coding call mark marked after former kept old given new transfer writer writer' result opened receives = record {
+  between = opened.between;
+  looks = opened.looks;
+  goes_on = inl (record { transfer = transfer; marked = marked; given = given; opened = opened.goes_on; receives = receives });
+}

@@ -4,7 +4,6 @@ pub mod Causes
 pub mod Commands
 pub mod Connecting
 pub mod ConnectingCounts
-pub mod CopyingLemmas
 pub mod Counting
 pub mod EveryCall
 pub mod EveryStage
@@ -23,6 +22,5 @@ pub mod PolledReads
 pub mod Quiet
 pub mod Reasons
 pub mod Rows
-pub mod SavingLemmas
 pub mod SecuringCounts
 pub mod Trees

@@ -9,8 +9,8 @@ use Rattle.ftp_base.specs.declared.types.fault.ConnectionError.TheVariants.{Time
 use Rattle.ftp_base.specs.declared.types.mode.Mode.{Mode}
 use Rattle.ftp_base.specs.declared.types.mode.Mode.TheVariants as mode
 use Rattle.ftp_base.specs.declared.types.reply.Response.{Response}
-use Rattle.ftp_answers.specs.Addresses.{passive_address_of, extended_port_of}
-use Rattle.ftp_answers.specs.declared.addresses.NoAddress.{NoAddress}
+use Rattle.ftp_calls.specs.Addresses.{passive_address_of, extended_port_of}
+use Rattle.ftp_calls.specs.declared.answers.addresses.NoAddress.{NoAddress}
 use Rattle.ftp_calls.specs.Exchanges.{drains, drains_first, finishes, restarts, row_of}
 use Rattle.ftp_calls.specs.Kinds.{IsOpening}
 use Rattle.ftp_calls.specs.declared.call.Answer.{Answer}

@@ -10,8 +10,8 @@ use Rattle.ftp_base.specs.declared.command.Command.{Command}
 use Rattle.ftp_base.specs.declared.command.Command.TheVariants as command
 use Rattle.ftp_base.specs.Command.{text_of}
 use Rattle.ftp_base.specs.Wire.{wire}
-use Rattle.ftp_answers.specs.Answers.{path_of, second_line_of, size_of, features_in}
-use Rattle.ftp_answers.specs.Times.{time_of}
+use Rattle.ftp_calls.specs.Answers.{path_of, second_line_of, size_of, features_in}
+use Rattle.ftp_calls.specs.Times.{time_of}
 use Rattle.ftp_calls.specs.Exchanges.{drained_row, draining_row, finishes, finishing_row, is_ascii, local_row, moving_row, negotiates, opens, own_row, resyncing_row, says}
 use Rattle.ftp_calls.specs.declared.call.Call.{Call}
 use Rattle.ftp_calls.specs.declared.call.Call.TheVariants as call

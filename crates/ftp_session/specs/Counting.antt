@@ -3,7 +3,7 @@
 use Rattle.std.specs.Prelude.{◌≡◌, ◌⊎◌, ℕ, Bool, true, List, [], ◌∷◌, Option, Some, Result, Ok, Err, codes}
 use Rattle.std.specs.Io.KnownBytes.{Appends, Consumes}
 use Rattle.std.specs.declared.io.ErrorKind.{ErrorKind}
-use Rattle.ftp_base.specs.Ascii.{AppendsFront, IsCopyFault}
+use Rattle.ftp_base.specs.Ascii.{AppendsFront, IsCopyFault, wire_data}
 use Rattle.ftp_base.specs.declared.command.Command.TheVariants.{Custom}
 use Rattle.ftp_base.specs.declared.status.Status.{Status}
 use Rattle.ftp_base.specs.declared.status.Status.TheVariants.{AuthOk, CommandOk}
@@ -29,7 +29,6 @@ use Rattle.ftp_transfer.specs.declared.direction.Direction.{Direction}
 use Rattle.ftp_transfer.specs.declared.direction.Direction.TheVariants.{Download, Upload}
 use Rattle.ftp_dialogue.specs.Coding.{Coding}
 use Rattle.ftp_dialogue.specs.Counted.{CountsFailure, IsGivenBeside}
-use Rattle.ftp_dialogue.specs.Dialogue.{wire_data}
 use Rattle.ftp_dialogue.specs.Link.{Link}
 use Rattle.ftp_dialogue.specs.NetEvents.{Net, first_net}
 use Rattle.ftp_dialogue.specs.Sound.{cannot_open}
@@ -37,9 +36,9 @@ use Rattle.ftp_dialogue.specs.State.{SessionValue}
 use Rattle.ftp_session.specs.Calls.{Connects}
 use Rattle.ftp_session.specs.Commands.{PlaysCommand}
 use Rattle.ftp_session.specs.Connecting.{IsConnected}
-use Rattle.ftp_session.specs.Copying.{Copies, Failed, Wrote, WroteFront}
+use Rattle.ftp_transfer.specs.Copying.{Copies, Failed, Wrote, WroteFront}
 use Rattle.ftp_session.specs.Handed.{LooksIf, Opens, as_seen, watches, with_data}
-use Rattle.ftp_session.specs.Saving.{Gave, Saves, StopsAt}
+use Rattle.ftp_transfer.specs.Saving.{Gave, Saves, StopsAt}
 use Rattle.ftp_session.specs.Trees.{reply_tree}
 
 -- Coming to a connection

@@ -12,7 +12,7 @@ use Rattle.ftp_dialogue.specs.Promises.{failed_from}
 use Rattle.ftp_dialogue.specs.State.{SessionValue}
 use Rattle.ftp_dialogue.specs.Steps.Moving.{CarriesOut}
 use Rattle.ftp_session.specs.Calls.{unit_answer}
-use Rattle.ftp_session.specs.Copying.{Copies}
+use Rattle.ftp_transfer.specs.Copying.{Copies}
 use Rattle.ftp_session.specs.Handed.{BringsToEnd, OpensOne, SeesFirst, is_out, left_if, with_data}
 use Rattle.ftp_transfer.specs.Transfer.{TransferValue}
 use Rattle.ftp_transfer.specs.declared.direction.Direction.TheVariants.{Download, Upload}
@@ -100,3 +100,28 @@ RetrievesFrom opens ends coding call Reads mark after former kept old new result
 
 abbrev pub Retrieves : {T : Type 0} → Link → Link → Coding → Call → (TransferValue → Result T FtpError → TransferValue → Type 0) → Option End → Option End → Option End → Option End → SessionValue → SessionValue → Result T FtpError → Type 0
 Retrieves opens ends coding call Reads mark after former kept old new result = SeesFirst mark old (λ between seen. RetrievesFrom opens ends coding call Reads between after former kept seen new result)
+
+-- what a transfer gives goes to a writer, and the transfer is brought to its end; the error of the first is told first
+pub record Receives (link : Link) (coding : Coding) (writer writer' : Option (List ℕ)) (transfer : TransferValue) (mark after : Option End) (old new : SessionValue) (result : Result ℕ FtpError) : Type 0 where
+  pub over : TransferValue
+  pub saved : Result ℕ FtpError
+  pub saves : Saves link.tells writer writer' transfer over saved
+  pub ended : Result (Unit {0}) FtpError
+  pub ends : FinishesWhole link coding over mark after old new ended
+  pub is : result ≡ first_of saved ended
+
+-- a call opens a download, and it goes to a writer; or it opens none, and nothing is written
+pub record OpensAndReceives (opens ends : Link) (coding : Coding) (call : Call) (writer writer' : Option (List ℕ)) (mark after former kept : Option End) (old new : SessionValue) (result : Result ℕ FtpError) : Type 0 where
+  pub transfer : TransferValue
+  pub marked : Option End
+  pub given : SessionValue
+  pub opened : OpensOne opens coding call Download mark marked former kept old given (Ok transfer)
+  pub receives : Receives ends coding writer writer' transfer marked after given new result
+
+abbrev pub WritesFrom : Link → Link → Coding → Call → Option (List ℕ) → Option (List ℕ) → Option End → Option End → Option End → Option End → SessionValue → SessionValue → Result ℕ FtpError → Type 0
+WritesFrom opens ends coding call writer writer' mark after former kept old new result =
+    OpensAndReceives opens ends coding call writer writer' mark after former kept old new result
+    ⊎ ((fault : FtpError) × (result ≡ Err fault) × OpensOne opens coding call Download mark after former kept old new (Err fault) × (writer' ≡ writer))
+
+abbrev pub WritesTo : Link → Link → Coding → Call → Option (List ℕ) → Option (List ℕ) → Option End → Option End → Option End → Option End → SessionValue → SessionValue → Result ℕ FtpError → Type 0
+WritesTo opens ends coding call writer writer' mark after former kept old new result = SeesFirst mark old (λ between seen. WritesFrom opens ends coding call writer writer' between after former kept seen new result)

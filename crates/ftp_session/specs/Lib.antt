@@ -1,7 +1,6 @@
 pub mod Calls
 pub mod Commands
 pub mod Connecting
-pub mod Copying
 pub mod Counting
 pub mod Fetched
 pub mod Files
@@ -11,6 +10,5 @@ pub mod Locked
 pub mod PollCauses
 pub mod Polled
 pub mod Rows
-pub mod Saving
 pub mod Securing
 pub mod Trees

@@ -11,8 +11,8 @@ use Rattle.ftp_base.specs.declared.command.Command.TheVariants as command
 use Rattle.ftp_base.specs.Command.{text_of}
 use Rattle.ftp_base.specs.Wire.{wire}
 use Rattle.ftp_control.specs.declared.control.form.ReplyForm.TheVariants.{Features}
-use Rattle.ftp_answers.specs.Answers.{path_of, second_line_of, size_of, features_in}
-use Rattle.ftp_answers.specs.Times.{time_of}
+use Rattle.ftp_calls.specs.Answers.{path_of, second_line_of, size_of, features_in}
+use Rattle.ftp_calls.specs.Times.{time_of}
 use Rattle.ftp_calls.specs.Exchanges.{is_ascii}
 use Rattle.ftp_calls.specs.declared.exchange.Codes.{Codes}
 use Rattle.ftp_calls.specs.declared.call.Answer.{Answer}

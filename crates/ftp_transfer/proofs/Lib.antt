@@ -1,1 +1,3 @@
+pub mod CopyingLemmas
 pub mod Marks
+pub mod SavingLemmas

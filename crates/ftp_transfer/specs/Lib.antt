@@ -1,2 +1,4 @@
+pub mod Copying
 pub mod Mark
+pub mod Saving
 pub mod Transfer

@@ -7,15 +7,14 @@ ghost use Rattle.ftp_dialogue.specs.Counted.{CountsFaultsBeside};
 ghost use Rattle.ftp_dialogue.specs.Link.{asking, blocking, built_by};
 ghost use Rattle.ftp_session.specs.Calls.{bytes_answer, lines_answer};
 ghost use Rattle.ftp_session.specs.Counting.{CountsDownload, CountsSaving};
-ghost use Rattle.ftp_session.specs.Files.{Retrieves};
+ghost use Rattle.ftp_session.specs.Files.{Retrieves, WritesTo};
 ghost use Rattle.ftp_session.specs.Handed.{Opens, PlaysSeen};
-ghost use Rattle.ftp_session.specs.Saving.{WritesTo};
 ghost use Rattle.ftp_transfer.specs.declared.direction.Direction.TheVariants as directions;
 
 use ftp_base::encoding::Encoding;
 use ftp_base::types::FtpResult;
-use ftp_session::session::{Call, DownloadReader, Progress, Session};
-use ftp_transfer::Transfer;
+use ftp_session::session::{Call, DownloadReader, Session};
+use ftp_transfer::{Progress, Transfer};
 use ftp_transport::{Conn, Network, PassiveStreamBuilder, Transport};
 use std::alloc::Global;
 use std::io::Write;

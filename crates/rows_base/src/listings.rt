@@ -7,7 +7,7 @@ use crate::plain;
 use crate::sources::{Source, end_of};
 use crate::welcomes::Latin1;
 use crate::words::said;
-use ftp_answers::{get_lines_from_stream, read_listing};
+use ftp_calls::answers::{get_lines_from_stream, read_listing};
 use ftp_base::encoding::{EncodeError, Encoding, Utf8Encoding};
 use rows_text::{RowError, bytes_of, pair, value};
 use std::alloc::{AllocError, Global};

@@ -2,7 +2,7 @@
 //! (RFC 2428, section 3).
 
 ghost use Rattle.std.specs.Prelude.{◌≡◌, IfOk, None};
-ghost use Rattle.ftp_answers.specs.Addresses.{extended_port_of, passive_address_of};
+ghost use Rattle.ftp_calls.specs.Addresses.{extended_port_of, passive_address_of};
 ghost use Rattle.ftp_transport.specs.declared.request.Request.TheVariants.{Connect};
 ghost use Rattle.ftp_transport.specs.declared.room.Room.{Room as Rooms};
 ghost use Rattle.ftp_dialogue.specs.Dialogue.{Ask, Build, Tree, at_port, connecting_to, connecting_to_peer, no_address, on_built, on_connection, to_address, to_port};
@@ -13,7 +13,7 @@ ghost use Rattle.session_plain.specs.Progress.{ComesTo};
 use crate::asking::{Came, asked};
 use crate::building::{Answered, built};
 use crate::exchange::{Progress, done};
-use ftp_answers::{NoAddress, read_extended_port, read_passive_address};
+use ftp_calls::answers::{NoAddress, read_extended_port, read_passive_address};
 use ftp_base::types::{ConnectionError, FtpError, Response};
 use ftp_session::model::{PlayState, Played, Wait};
 use ftp_session::session::Answer;

@@ -17,7 +17,7 @@ use crate::finishing::{finished, left, told_of_close, wants_memory};
 use crate::hearing::{Heard, hear_reply};
 use crate::opening::{opened, with_transfer};
 use crate::storing::storing;
-use ftp_answers::read_listing;
+use ftp_calls::answers::read_listing;
 use ftp_base::encoding::Encoding;
 use ftp_base::status::Status;
 use ftp_base::types::{Bytes, ConnectionError, FtpError, FtpResult, Response};

@@ -2,7 +2,8 @@
 
 ghost use Rattle.std.specs.Prelude.{◌≡◌, IfOk, drop};
 ghost use Rattle.ftp_transport.specs.declared.room.Room.{Room as Rooms};
-ghost use Rattle.ftp_dialogue.specs.Dialogue.{Tree, giving_up, sending, size_to_send, storing, wire_data, with_abandoned};
+ghost use Rattle.ftp_dialogue.specs.Dialogue.{Tree, giving_up, sending, size_to_send, storing, with_abandoned};
+ghost use Rattle.ftp_base.specs.Ascii.{wire_data};
 ghost use Rattle.ftp_dialogue.specs.Play.{play};
 ghost use Rattle.ftp_dialogue.specs.declared.state.State.{State as States};
 ghost use Rattle.session_plain.specs.Progress.{ComesTo, SendsOn};

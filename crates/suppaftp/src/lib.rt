@@ -14,7 +14,6 @@ pub mod sync_ftp;
 pub mod transfer_stream;
 pub mod transport;
 
-pub use ftp_answers as answers;
 pub use ftp_base::encoding::{Encoding, Utf8Encoding};
 pub use ftp_base::status::Status;
 pub use ftp_base::types::{
@@ -22,14 +21,14 @@ pub use ftp_base::types::{
     ReplyTooLarge, Response,
 };
 pub use ftp_base::{ascii, command, encoding, laws, status, types};
-pub use ftp_calls::call;
+pub use ftp_calls::{answers, call};
 pub use ftp_control::control;
 pub use ftp_list as list;
 /// What kind of entry a file of a listing is, which `list` calls a `FileType`; the other `FileType` is that of `TYPE`.
 pub use ftp_list::{File, FileType as EntryKind, ListParser, Listing};
 pub use ftp_secure::{DataStream, Secured, TlsConnector, TlsStream};
-pub use ftp_session::session::{DownloadReader, Failure, NoProgress, Progress};
-pub use ftp_transfer::mark;
+pub use ftp_session::session::{DownloadReader, Failure};
+pub use ftp_transfer::{NoProgress, Progress, mark};
 pub use ftp_transport::{PassiveStreamBuilder, TcpTransport};
 pub use host::Host;
 pub use polled_ftp::{AsyncFtpStream, AsyncFtpTransferStream, ImplAsyncFtpStream};

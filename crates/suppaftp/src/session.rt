@@ -6,6 +6,7 @@
 pub use ftp_calls::lines::Lines;
 pub use ftp_runs::{Event, RunCalls, RunEvents};
 pub use ftp_session::session::{
-    Answer, Call, Counts, DownloadReader, Failure, NoProgress, NoStreamBuilder, NoTlsConnector,
-    Owed, Progress, Session, Setting, Settings, State,
+    Answer, Call, Counts, DownloadReader, Failure, NoStreamBuilder, NoTlsConnector, Owed, Session,
+    Setting, Settings, State,
 };
+pub use ftp_transfer::{NoProgress, Progress};

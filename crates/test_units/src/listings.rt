@@ -1,9 +1,9 @@
 //! The lines of listings.
 
 use crate::seen::assert_same;
-use ftp_answers::{get_lines_from_stream, read_listing};
 use ftp_base::encoding::Utf8Encoding;
 use ftp_base::types::FtpError;
+use ftp_calls::answers::{get_lines_from_stream, read_listing};
 use std::test::Fail;
 
 #[test]

@@ -55,7 +55,8 @@ use Rattle.ftp_calls.specs.declared.exchange.Row.{Row}
 use Rattle.ftp_calls.specs.declared.exchange.Row.TheVariants.{Exchanges, Arms}
 use Rattle.ftp_calls.specs.declared.exchange.Row.TheVariants as row
 use Rattle.ftp_calls.specs.Exchanges.{is_draining, is_local, is_read, row_of, Kind, Nothing, kind_of, kind_of_task}
-use Rattle.ftp_dialogue.specs.Dialogue.{Expected, End, Tree, Say, Hear, Look, Ask, Build, Secure, Move, Leaf, accepted, chunk, fetched, first_fault, later, lets_in, most_bytes, moved_answer, performing, too_long, unfetched, wants_memory, with_abandoned, with_fetched, set_to, answer_to_fault, after_fault_of, with_left, with_transfer, dialogue}
+use Rattle.ftp_dialogue.specs.Dialogue.{Expected, End, Tree, Say, Hear, Look, Ask, Build, Secure, Move, Leaf, accepted, chunk, fetched, first_fault, later, lets_in, moved_answer, performing, too_long, unfetched, wants_memory, with_abandoned, with_fetched, set_to, answer_to_fault, after_fault_of, with_left, with_transfer, dialogue}
+use Rattle.ftp_base.specs.Ascii.{most_bytes}
 use Rattle.ftp_dialogue.specs.Resuming.{Modes, Resumes, Silent, modes_of}
 use Rattle.ftp_dialogue.specs.Promises.{DrainsIf, due_of, AbortsRead, IsFault, Leads, Completes, Aborts, However, SaidOrTaken, Untouched, Rests, IsRefused, begun_by, failed_from, refusal_of, IsApart}
 use Rattle.ftp_dialogue.specs.Steps.Stages.{AnswersKind, Begun, GoesOnTo, NotBegun, StageAfter, StepAnswers, asking_of, nodes_left, remaining, begun_at, is_later}

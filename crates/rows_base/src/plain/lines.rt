@@ -1,8 +1,8 @@
 //! The lines of a listing, step by step.
 
 ghost use Rattle.std.specs.Prelude.{◌≡◌, ◌++◌, ◌∷◌, [], IfOk, OnOk, filter, map, string_bytes};
-ghost use Rattle.ftp_answers.specs.Answers.{without_return};
-ghost use Rattle.ftp_answers.specs.Listing.{is_not_empty, listing, pieces};
+ghost use Rattle.ftp_calls.specs.Answers.{without_return};
+ghost use Rattle.ftp_calls.specs.Listing.{is_not_empty, listing, pieces};
 
 use ftp_base::encoding::Encoding;
 use std::alloc::{AllocError, Global};

@@ -3,8 +3,8 @@
 use crate::secure::scene::{number, session};
 use ftp_base::status::Status;
 use ftp_base::types::FtpResult;
-use ftp_session::session::{DownloadReader, NoProgress, Session};
-use ftp_transfer::Transfer;
+use ftp_session::session::{DownloadReader, Session};
+use ftp_transfer::{NoProgress, Transfer};
 use rows_tls::{Line, Net, Seal};
 use std::alloc::{AllocError, Global};
 use std::io::Read;

@@ -1,5 +1,5 @@
 use Rattle.std.proofs.Common.{arith}
-use Rattle.ftp_dialogue.specs.Dialogue.{wire_data}
+use Rattle.ftp_base.specs.Ascii.{wire_data}
 use Rattle.ftp_dialogue.proofs.UnsentLemmas.{size_none, size_some, wire_longer}
 use Rattle.ftp_dialogue.proofs.unsent.size_to_send.Goals as goal
 

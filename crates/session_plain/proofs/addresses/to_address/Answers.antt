@@ -1,5 +1,5 @@
 use Rattle.std.proofs.Common.{◌≡◌, Ok}
-use Rattle.ftp_answers.specs.Addresses.{passive_address_of}
+use Rattle.ftp_calls.specs.Addresses.{passive_address_of}
 use Rattle.ftp_dialogue.specs.declared.state.State.{State}
 use Rattle.ftp_dialogue.specs.Dialogue.{Tree, connecting_to, connecting_to_peer, to_address}
 use Rattle.session_plain.proofs.Parts.{comes, as_told, at_peer}

@@ -1,5 +1,5 @@
 use Rattle.std.proofs.Common.{◌≡◌, Ok}
-use Rattle.ftp_answers.specs.Addresses.{extended_port_of}
+use Rattle.ftp_calls.specs.Addresses.{extended_port_of}
 use Rattle.session_plain.proofs.addresses.to_port.Goals as goal
 
 -- the port is the one that was told

@@ -1,5 +1,6 @@
 use Rattle.std.proofs.Common.{ap, sym, ◌∙◌}
-use Rattle.ftp_dialogue.specs.Dialogue.{size_to_send, wire_data}
+use Rattle.ftp_dialogue.specs.Dialogue.{size_to_send}
+use Rattle.ftp_base.specs.Ascii.{wire_data}
 use Rattle.ftp_dialogue.proofs.SendingLemmas.{store_starts, store_too_large}
 use Rattle.ftp_dialogue.proofs.machine.Machine.start_store.Goals as goal
 

@@ -1,9 +1,9 @@
 use Rattle.std.proofs.Common.{◌≡◌, ◌∙◌, ◌<◌, ◌+◌, ◌++◌, ◌∷◌, [], ℕ, List, length, take, map, get_or, string_bytes, sym, ap, arith}
 use Rattle.std.specs.Prelude.{filter}
 use Rattle.std.proofs.lemmas.List.{take_more, get_or-map, length-map}
-use Rattle.ftp_answers.specs.Answers.{without_return}
-use Rattle.ftp_answers.specs.Listing.{is_not_empty}
-use Rattle.ftp_answers.proofs.ListingFacts.{lines_from, lines_from-append}
+use Rattle.ftp_calls.specs.Answers.{without_return}
+use Rattle.ftp_calls.specs.Listing.{is_not_empty}
+use Rattle.ftp_calls.proofs.ListingFacts.{lines_from, lines_from-append}
 use Rattle.rows_base.proofs.plain.lines.listing.Goals as goal
 
 -- the lines of the pieces so far and of the next are those of one piece more

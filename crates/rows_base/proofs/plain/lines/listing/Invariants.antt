@@ -1,5 +1,5 @@
 use Rattle.std.proofs.Common.{◌≡◌, take, map, string_bytes}
-use Rattle.ftp_answers.proofs.ListingFacts.{lines_from}
+use Rattle.ftp_calls.proofs.ListingFacts.{lines_from}
 use Rattle.rows_base.proofs.plain.lines.listing.Given as goal
 
 abbrev pub invariant-loop-piece : goal.invariant-loop-piece

@@ -1,7 +1,7 @@
 use Rattle.std.proofs.Common.{refl}
 use Rattle.ftp_calls.specs.declared.call.Call.TheVariants.{RetrAsStream}
 use Rattle.ftp_session.proofs.FilesCounts.{of_opening, saving_counts}
-use Rattle.ftp_session.proofs.SavingLemmas.{writes_on}
+use Rattle.ftp_session.proofs.FilesLemmas.{writes_on}
 use Rattle.ftp_session.proofs.session.client.Session.write_to.Goals as goal
 
 pub returns-in-Ok-clause-writes : goal.returns-in-Ok-clause-writes

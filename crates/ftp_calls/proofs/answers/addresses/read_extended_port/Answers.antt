@@ -1,0 +1,24 @@
+use Rattle.std.proofs.Common.{◌∙◌, ap, inl, inr}
+use Rattle.std.specs.Prelude.{Err}
+use Rattle.std.specs.Str.{is_utf8}
+use Rattle.std.proofs.lemmas.Bool.{cases_Bool}
+use Rattle.std.proofs.lemmas.Str.{IsUtf8-from_is_utf8, is_utf8-from_IsUtf8}
+use Rattle.ftp_calls.specs.declared.answers.addresses.NoAddress.TheVariants.{Unreadable}
+use Rattle.ftp_calls.specs.Addresses.{extended_number, port_of}
+use Rattle.ftp_calls.proofs.QuoteFacts.{if_passed, if_failed}
+use Rattle.ftp_calls.proofs.answers.addresses.read_extended_port.Goals as goal
+
+pub returns-in-Ok : goal.returns-in-Ok
+returns-in-Ok c =
+    let body = c.args.body.now in
+    let read = c.in-Ok.ensures.cases in
+    c.first_port.ensures ∙ ap (λ text. port_of (extended_number text)) read.0
+    ∙ if_passed (is_utf8 body) (port_of (extended_number body)) (Err Unreadable) (is_utf8-from_IsUtf8 body read.1)
+
+pub returns-in-Err : goal.returns-in-Err
+returns-in-Err c =
+    let body = c.args.body.now in
+    elim (cases_Bool (is_utf8 body)) [
+      | inl is ↦ absurd (c.in-Err.ensures.cases.0 (IsUtf8-from_is_utf8 body is))
+      | inr other ↦ if_failed (is_utf8 body) (port_of (extended_number body)) (Err Unreadable) other
+    ]

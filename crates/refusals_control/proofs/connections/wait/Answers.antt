@@ -1,5 +1,0 @@
-use Rattle.std.proofs.Common.{rules}
-use Rattle.refusals_control.proofs.connections.wait.Goals as goal
-
-pub returns-clause-registered : goal.returns-clause-registered
-returns-clause-registered g c = search rules
