@@ -34,7 +34,7 @@ use Rattle.ftp_dialogue.proofs.CarryingLemmas.{carried_apart, carried_made}
 use Rattle.ftp_dialogue.proofs.DrainingLemmas.{local_undue, made_plays}
 use Rattle.ftp_dialogue.proofs.Sorts.{stage_no_local}
 use Rattle.ftp_session.specs.Calls.{sends}
-use Rattle.ftp_session.specs.PollCauses.{CausesAnswer, CausesPoll, TakesNoMore, keeps}
+use Rattle.ftp_session.specs.PollCauses.{CausesAnswer, CausesPoll, TakesNoMore, kept_error}
 use Rattle.ftp_session.specs.Polled.{PollsNext as PollsSession, PollsNextIf as PollsSessionIf, ThenStarts, ThenStartsIf}
 use Rattle.ftp_session.proofs.Causes.{Causes, Happens, alone_causes, given_before}
 use Rattle.ftp_session.proofs.EveryCall.{Short, every_backed}
@@ -134,17 +134,17 @@ module _ (builds : Builds) (coding : Coding) (call : Call) (stage : Stage) where
           then (Ready first) polls = over (is_unit first) first polls
           then Pending waits = (waits.0, waits.1, waits.2)
 
-  next_causes : (stage' : Stage) (polled : Bool) (v w : SessionValue) (result : Polled Answer) → StageIn (Some call) stage → PollsNext builds coding call stage stage' polled v w result → CausesPoll mem call (keeps stage) (keeps stage') v w result
+  next_causes : (stage' : Stage) (polled : Bool) (v w : SessionValue) (result : Polled Answer) → StageIn (Some call) stage → PollsNext builds coding call stage stage' polled v w result → CausesPoll mem call (kept_error stage) (kept_error stage') v w result
   next_causes stage' polled v w result at next = go (is_local call) refl
     where
-      of_local : is_local call ≡ true → (b : Bool) → due_of call v ≡ b → PollsNextIf b builds coding call stage stage' polled v w result → CausesPoll mem call (keeps stage) (keeps stage') v w result
+      of_local : is_local call ≡ true → (b : Bool) → due_of call v ≡ b → PollsNextIf b builds coding call stage stage' polled v w result → CausesPoll mem call (kept_error stage) (kept_error stage') v w result
       of_local local true due d = let clash : true ≡ false = sym due ∙ local_undue call v local in cc
       of_local local false undue here =
           let carries = here.0.carries local (local_first local at) in
-          let P : Polled Answer → Type 0 = λ r. CausesPoll mem call (keeps stage) (keeps stage') v w r in
-          subst P (sym carries.1) (carried_caused local (keeps stage) v w carries.0 carries.2)
+          let P : Polled Answer → Type 0 = λ r. CausesPoll mem call (kept_error stage) (kept_error stage') v w r in
+          subst P (sym carries.1) (carried_caused local (kept_error stage) v w carries.0 carries.2)
 
-      go : (b : Bool) → is_local call ≡ b → CausesPoll mem call (keeps stage) (keeps stage') v w result
+      go : (b : Bool) → is_local call ≡ b → CausesPoll mem call (kept_error stage) (kept_error stage') v w result
       go false abroad = next_caused mem (Unit {0}) coding call stage at stage' v w result (as_session stage' polled v w result abroad next)
       go true local = of_local local (due_of call v) refl next.polls
 
@@ -193,7 +193,7 @@ module _ (builds : Builds) (coding : Coding) (call : Call) (stage : Stage) where
   pub ready_here : (stage' : Stage) (polled leaving : Bool) (v gone w : SessionValue) (answer : Answer) → StageIn (Some call) stage → PollsNext builds coding call stage stage' polled v gone (Ready answer) → HasLeftIf leaving gone w → Here v w None stage' (Some answer)
   ready_here stage' polled leaving v gone w answer at next left = record {
     no_fewer = no_fewer_on v.channel.told gone.channel.told w.channel.told (next_no_fewer stage' polled v gone (Ready answer) at next) (as_many gone.channel.told w.channel.told (ap (λ c. c.told.failures) (left_apart leaving gone w left)));
-    causes = (left_caused leaving (keeps stage) v gone w answer left (next_causes stage' polled v gone (Ready answer) at next), refl);
+    causes = (left_caused leaving (kept_error stage) v gone w answer left (next_causes stage' polled v gone (Ready answer) at next), refl);
     next = refl;
   }
 
@@ -219,14 +219,14 @@ module _ (builds : Builds) (coding : Coding) (call : Call) (stage : Stage) where
     pub caught_fault : (stage' : Stage) (fault : FtpError) → caught ≡ Ready (Some fault) → Here v middle None stage' (Some (answers.Fault fault))
     caught_fault stage' fault is = record {
       no_fewer = caught_no_fewer;
-      causes = (let P : Polled (Option FtpError) → Type 0 = λ r. CatchesUp (over_memory builds_nothing) plain v middle r in fault_caused mem call plain (keeps stage) v middle fault (subst P is up), refl);
+      causes = (let P : Polled (Option FtpError) → Type 0 = λ r. CatchesUp (over_memory builds_nothing) plain v middle r in fault_caused mem call plain (kept_error stage) v middle fault (subst P is up), refl);
       next = refl;
     }
 
     pub caught_ends : (stage' : Stage) → Here v middle None stage' (Some answers.Unit)
     caught_ends stage' = record {
       no_fewer = caught_no_fewer;
-      causes = (light_caused mem call (keeps stage) v middle, refl);
+      causes = (light_caused mem call (kept_error stage) v middle, refl);
       next = refl;
     }
 
@@ -240,9 +240,9 @@ module _ (builds : Builds) (coding : Coding) (call : Call) (stage : Stage) where
         done : CatchesUp (over_memory builds_nothing) plain v middle (Ready None)
         done = let P : Polled (Option FtpError) → Type 0 = λ r. CatchesUp (over_memory builds_nothing) plain v middle r in subst P is up
 
-        go : (g : Option Answer) → CausesPolled builds (Some call) (keeps stage) (kept_in call' stage') middle w g → CausesPolled builds (Some call) (keeps stage) (kept_in call' stage') v w g
-        go (Some answer) causes = (caused_in_step mem call plain (keeps stage) (kept_in call' stage') v middle w (Ready answer) done causes.0, causes.1)
-        go None causes = caused_in_step mem call plain (keeps stage) (kept_in call' stage') v middle w Pending done causes
+        go : (g : Option Answer) → CausesPolled builds (Some call) (kept_error stage) (kept_in call' stage') middle w g → CausesPolled builds (Some call) (kept_error stage) (kept_in call' stage') v w g
+        go (Some answer) causes = (caused_in_step mem call plain (kept_error stage) (kept_in call' stage') v middle w (Ready answer) done causes.0, causes.1)
+        go None causes = caused_in_step mem call plain (kept_error stage) (kept_in call' stage') v middle w Pending done causes
 
 -- Other events
 

@@ -20,7 +20,7 @@ use Rattle.ftp_dialogue.specs.Sound.{cannot_open}
 use Rattle.ftp_dialogue.specs.State.{SessionValue}
 use Rattle.ftp_dialogue.specs.declared.stage.Stage.{Stage}
 use Rattle.ftp_session.specs.Calls.{sends}
-use Rattle.ftp_session.specs.PollCauses.{CausesAnswer, CausesKept, keeps}
+use Rattle.ftp_session.specs.PollCauses.{CausesAnswer, CausesKept, kept_error}
 use Rattle.ftp_runs.specs.Following.{Grows, given_answer}
 use Rattle.ftp_runs.specs.Runs.{PlaysAmong}
 
@@ -84,7 +84,7 @@ CountsEvents builds under_way kept (event ∷ events) old new answers =
 -- the error that the call under way keeps at its stage
 abbrev pub kept_in : Option Call → Stage → Option FtpError
 kept_in None stage = None
-kept_in (Some call) stage = keeps stage
+kept_in (Some call) stage = kept_error stage
 
 pub record CausesHere (builds : Builds) (event : Event) (v w : SessionValue) (call call' : Option Call) (stage stage' : Stage) (given : Option Answer) : Type 0 where
   pub no_fewer : NoFewer v.channel.told w.channel.told

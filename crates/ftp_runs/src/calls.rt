@@ -12,6 +12,7 @@ ghost use Rattle.ftp_runs.specs.Counting.{CountsEach};
 ghost use Rattle.ftp_runs.specs.Following.{MadeAmong, MadeInStep};
 ghost use Rattle.ftp_runs.specs.Runs.{Runs, are_due};
 ghost use Rattle.ftp_dialogue.specs.Sound.{Sound};
+ghost use Rattle.ftp_session.specs.Kept.{Keeps};
 
 use ftp_base::encoding::Encoding;
 use ftp_base::types::{FtpError, FtpResult};
@@ -55,9 +56,7 @@ where
         ensures count { IfOk result (λ answers. length answers.items ≡ length calls.now) }
         ensures fails { IfOk result (λ answers.
             FailsWith (as_seen self.new.mark self.old.machine) self.new.machine answers.items) }
-        ensures encoding { self.new.encoding ≡ self.old.encoding }
-        ensures builder { self.new.builder ≡ self.old.builder }
-        ensures former { self.new.former ≡ self.old.former }
+        ensures keeps { Keeps self.old self.new }
         ensures memory { IfErr result (λ fault. fault ≡ FtpError.OutOfMemory) }
         ensures unchanged { OnErr result (self.new ≡ self.old) }
         ensures sound { Sound Tr.Conn.tells self.new.machine.channel

@@ -20,6 +20,7 @@ ghost use Rattle.ftp_dialogue.specs.Sound.{Sound, SoundCounts};
 ghost use Rattle.ftp_runs.specs.Following.{CatchesUpHere, FailedStays, Grows, Happens, IsFeed, Passes, PollsHere, PollsNext, Starts, at_rest, given_answer, reads_here};
 ghost use Rattle.ftp_dialogue.specs.Steps.Polls.{StageIn};
 ghost use Rattle.ftp_dialogue.specs.Steps.Stages.{StageOf};
+ghost use Rattle.ftp_session.specs.Kept.{Keeps};
 
 use super::dropping::{drop_call, leave_now, leave_then};
 use ftp_base::encoding::Encoding;
@@ -70,9 +71,7 @@ impl<K: Drop, E: Encoding, B: PassiveStreamBuilder<MemoryConn>> RunEvents
         ensures counts { IfOk result (λ answers.
             CountsEvents (built_by B.answers self.old.builder) None None events.now (as_seen self.new.mark self.old.machine) self.new.machine answers.items) }
         ensures looks { OnOk result (LooksIf (watches self.old.mark self.old.machine) self.old.mark self.new.mark) }
-        ensures encoding { self.new.encoding ≡ self.old.encoding }
-        ensures builder { self.new.builder ≡ self.old.builder }
-        ensures former { self.new.former ≡ self.old.former }
+        ensures keeps { Keeps self.old self.new }
         ensures memory { IfErr result (λ fault. fault ≡ FtpError.OutOfMemory) }
         ensures stops { OnErr result ((self.new ≡ self.old) ⊎ (LooksIf (watches self.old.mark self.old.machine) self.old.mark self.new.mark
             × StopsAtFeed (built_by B.answers self.old.builder) (chosen E.decoded E.encoded self.old.encoding.0)

@@ -10,6 +10,7 @@ ghost use Rattle.ftp_dialogue.specs.State.{Begins};
 ghost use Rattle.ftp_dialogue.specs.NetEvents.{first_net};
 ghost use Rattle.ftp_dialogue.specs.Dialogue.{rule_by};
 ghost use Rattle.ftp_script.specs.Playing.{IsTranscript, MakesOne, giving, server_address, supply_of};
+ghost use Rattle.ftp_session.specs.Kept.{KeepsChoices};
 
 use crate::script::Script;
 use crate::shown::{push_call, push_end};
@@ -90,8 +91,7 @@ fn push_made(
     requires encoding { session.old.encoding.0 ≡ None }
     requires builder { session.old.builder ≡ None }
     requires mark { session.old.mark ≡ None }
-    ensures encoding { session.new.encoding ≡ session.old.encoding }
-    ensures builder { session.new.builder ≡ session.old.builder }
+    ensures keeps { KeepsChoices session.old session.new }
     ensures mark { session.new.mark ≡ None }
     ensures makes { OnOk result ((made : List ℕ) × (text.new.items ≡ text.old.items ++ made) ×
         MakesOne call.now session.old.machine session.new.machine made) }

@@ -49,7 +49,7 @@ use Rattle.ftp_dialogue.specs.declared.stage.Transferring.{Transferring as Fetch
 use Rattle.ftp_dialogue.specs.declared.stage.Transferring.TheVariants as fetch
 use Rattle.ftp_dialogue.specs.declared.state.State.{State}
 use Rattle.ftp_session.specs.Calls.{sends}
-use Rattle.ftp_session.specs.PollCauses.{error_of, kept_by, keeps}
+use Rattle.ftp_session.specs.PollCauses.{error_of, kept_by, kept_error}
 use Rattle.ftp_session.proofs.Backed.{Backed, Or, Reasoned, accepting_backed, close_given, closing_fetch_backed, connecting_backed, ending_fetch_backed, finished_heard, gathering_backed, light_fault, line_backed, negotiating_backed, no_error, opening_backed, opening_data_backed, peer_backed, port_backed, quiet_backed, restart_backed, secured_backed, securing_backed, stopped_heard, told_backed}
 use Rattle.ftp_session.proofs.EveryCall.{carried_backed, sending_backed, storing_backed, took_no_more}
 use Rattle.ftp_session.proofs.Quiet.{IsQuietEnding, accepted_quiet, clash, faulty_quiet, of_bytes, row_quiet, seeking_quiet}
@@ -303,7 +303,7 @@ module _ (called : Call) (May : State → FtpError → Type 0) (short : MayGive 
     told_reasoned : (told : Answer) → ((fault : FtpError) → error_of told ≡ Some fault → (left : State) → May left fault) → Reasoned May told
     told_reasoned told kept = λ left fault same grave. kept fault (ap error_of same) left
 
-    carries_backed : (fetching : Fetched) → FetchOf called fetching → ((fault : FtpError) → keeps (Transferring fetching) ≡ Some fault → (left : State) → May left fault) → Backed May (fetch_left coding state fetching)
+    carries_backed : (fetching : Fetched) → FetchOf called fetching → ((fault : FtpError) → kept_error (Transferring fetching) ≡ Some fault → (left : State) → May left fault) → Backed May (fetch_left coding state fetching)
     carries_backed (fetch.Starting what) is kept = performed_backed what is
     carries_backed (fetch.Gathering form left all) is kept = gathering_backed left May coding form all state
     carries_backed (fetch.Sending left total rest) is kept = sending_backed left May (short is) total rest state
@@ -340,11 +340,11 @@ module _ (called : Call) (May : State → FtpError → Type 0) (short : MayGive 
   abort_backed (abort.Sending line) = breaking_backed
   abort_backed abort.ClosingData = breaking_backed
 
-  stage_backed : (stage : Stage) → StageOf called stage → ((fault : FtpError) → keeps stage ≡ Some fault → (left : State) → May left fault) → ((fault : FtpError) → cannot_open state.counts ≡ Some fault → remaining coding called state stage ≡ Leaf (Fault fault) state → May state fault) → Backed May (remaining coding called state stage)
+  stage_backed : (stage : Stage) → StageOf called stage → ((fault : FtpError) → kept_error stage ≡ Some fault → (left : State) → May left fault) → ((fault : FtpError) → cannot_open state.counts ≡ Some fault → remaining coding called state stage ≡ Leaf (Fault fault) state → May state fault) → Backed May (remaining coding called state stage)
   stage_backed (At turn) is kept spent = turn_backed called May short coding state turn reason
     where
       reason : (kind : ErrorKind) → turn ≡ Closed (Some kind) → (left : State) → May left (faults.ConnectionError (cause.Io kind))
-      reason kind at = kept (faults.ConnectionError (cause.Io kind)) (ap (λ t. keeps (At t)) at)
+      reason kind at = kept (faults.ConnectionError (cause.Io kind)) (ap (λ t. kept_error (At t)) at)
   stage_backed (Saying line a) is kept spent = awaited_backed called May short coding state a is.0 kept
   stage_backed (Hearing a) is kept spent = awaited_backed called May short coding state a is.0 kept
   stage_backed (Arming turn offset) is kept spent = λ fault same grave. cc same
@@ -379,7 +379,7 @@ module _ (called : Call) (May : State → FtpError → Type 0) (short : MayGive 
       go true is = negotiating_backed (opened_from called state) May coding called (last_backed called May short coding (opened_from called state)) state.settings.restart_offset
           (λ fault none. spent fault (opened_from called state) none (ap (λ b. cond b opens others) is ∙ ap (λ o. negotiating_unless o coding called state.settings.restart_offset (opened_from called state)) none))
 
-  pub entered_backed : (stage : Stage) → StageIn (Some called) stage → ((fault : FtpError) → keeps stage ≡ Some fault → (left : State) → May left fault) → ((fault : FtpError) (s : State) → cannot_open s.counts ≡ Some fault → entered_tree coding called stage state ≡ Leaf (Fault fault) s → May s fault) → Backed May (entered_tree coding called stage state)
+  pub entered_backed : (stage : Stage) → StageIn (Some called) stage → ((fault : FtpError) → kept_error stage ≡ Some fault → (left : State) → May left fault) → ((fault : FtpError) (s : State) → cannot_open s.counts ≡ Some fault → entered_tree coding called stage state ≡ Leaf (Fault fault) s → May s fault) → Backed May (entered_tree coding called stage state)
   entered_backed stage at kept spent = go (is_first stage) refl at
     where
       tree : Bool → Tree

@@ -39,7 +39,7 @@ use Rattle.ftp_dialogue.specs.declared.stage.Stage.{Stage}
 use Rattle.ftp_dialogue.specs.declared.stage.Stage.TheVariants.{At, Saying, Hearing, Arming, Resyncing, OpeningData, Closing, Aborting, Transferring}
 use Rattle.ftp_dialogue.specs.declared.stage.Transferring.TheVariants as fetch
 use Rattle.ftp_dialogue.specs.declared.state.State.{State}
-use Rattle.ftp_session.specs.PollCauses.{CausesAnswer, CausesKept, CausesPoll, TakesNoMore, error_of, kept_by, keeps}
+use Rattle.ftp_session.specs.PollCauses.{CausesAnswer, CausesKept, CausesPoll, TakesNoMore, error_of, kept_by, kept_error}
 use Rattle.ftp_session.specs.Polled.{CatchesUpThenPolls, DrainsFirst, EndsOrPolls, LooksFirst, PollsCall, PollsInStep, PollsInStepIf, PollsNext, PollsNextIf, PollsUnless, ThenPolls, ThenStarts, ThenStartsIf, UnderWay}
 use Rattle.ftp_session.proofs.Backed.{Backed, Or, Since, place_backed}
 use Rattle.ftp_session.proofs.Causes.{Grounds, Happens, SpentOr, aborts_grounds, after_part, completes_grounds, counted_grounds, given_after, happens_on, happens_to, lets_happen, light_grounds, nothing_happens, of_whole, one_ground}
@@ -125,7 +125,7 @@ module _ (fault : FtpError) (grave : IsGrave fault) (coding : Coding) (state : S
       go true ending = but (of_data (Or May came.Closed) form told is ending)
       go false ending = but (of_data (Or May came.Closed) form told is ending)
 
-  of_stage : (May : State → FtpError → Type 0) (called : Call) (stage : Stage) → keeps stage ≡ Some fault → Backed May (remaining coding called state stage) → HasReason May
+  of_stage : (May : State → FtpError → Type 0) (called : Call) (stage : Stage) → kept_error stage ≡ Some fault → Backed May (remaining coding called state stage) → HasReason May
   of_stage May called (At First) is backed = cc is
   of_stage May called (At Second) is backed = cc is
   of_stage May called (At (Passive offset)) is backed = cc is
@@ -149,7 +149,7 @@ module _ (fault : FtpError) (grave : IsGrave fault) (coding : Coding) (state : S
   of_stage May called (Transferring (fetch.Ending form told)) is backed = of_data May form told is backed
 
   -- and the call has no answer yet
-  no_leaf : {T : Type 0} (called : Call) (stage : Stage) (told : Answer) (left : State) → keeps stage ≡ Some fault → remaining coding called state stage ≡ Leaf told left → T
+  no_leaf : {T : Type 0} (called : Call) (stage : Stage) (told : Answer) (left : State) → kept_error stage ≡ Some fault → remaining coding called state stage ≡ Leaf told left → T
   no_leaf called (At First) told left is leaf = cc is
   no_leaf called (At Second) told left is leaf = cc is
   no_leaf called (At (Passive offset)) told left is leaf = cc is
@@ -242,8 +242,8 @@ fault_caused link called plain kept old new fault up = answer_caused link called
 pub light_caused : (link : Link) (called : Call) (kept : Option FtpError) (old new : SessionValue) → CausesAnswer link called kept old new answer.Unit
 light_caused link called kept old new = record { counted = λ kind is h. cc is; had_failed = λ is. cc is }
 
-keeps_still : (link : Link) (called : Call) (stage stage' : Stage) (old new : SessionValue) → stage' ≡ stage → KeepsOn link called (keeps stage) (keeps stage') old new
-keeps_still link called stage stage' old new same = λ fault is grave. inr (inl (ap keeps (sym same) ∙ is))
+keeps_still : (link : Link) (called : Call) (stage stage' : Stage) (old new : SessionValue) → stage' ≡ stage → KeepsOn link called (kept_error stage) (kept_error stage') old new
+keeps_still link called stage stage' old new same = λ fault is grave. inr (inl (ap kept_error (sym same) ∙ is))
 
 module _ (link : Link) (may_wait : Type 0) (coding : Coding) where
   -- where it gives no error all that happened is known
@@ -275,7 +275,7 @@ module _ (link : Link) (may_wait : Type 0) (coding : Coding) where
 
   module _ (called : Call) (stage : Stage) (at : StageIn (Some called) stage) where
     abbrev Besides : FtpError → Type 0
-    Besides fault = Also called (keeps stage) fault
+    Besides fault = Also called (kept_error stage) fault
 
     starts_grounds : (stage' : Stage) (v w : SessionValue) (told : Answer) → StartsTo link may_wait coding called stage stage' v w (Ready told) → Grounds link Besides v w told
     starts_grounds stage' v w told (inl (other, is, refuses)) =
@@ -297,7 +297,7 @@ module _ (link : Link) (may_wait : Type 0) (coding : Coding) where
         go (last, steps, lets) = of_whole link Besides (entered_at called stage v) v last w told refl refl lets (made last steps)
 
     -- a call that waits
-    waits_keep : (stage' : Stage) (v w : SessionValue) → StartsTo link may_wait coding called stage stage' v w Pending → KeepsOn link called (keeps stage) (keeps stage') v w
+    waits_keep : (stage' : Stage) (v w : SessionValue) → StartsTo link may_wait coding called stage stage' v w Pending → KeepsOn link called (kept_error stage) (kept_error stage') v w
     waits_keep stage' v w (inl (other, is, refuses)) = not_ready other is
     waits_keep stage' v w (inr on) = λ fault is grave. reason fault is grave on.polls
       where
@@ -314,7 +314,7 @@ module _ (link : Link) (may_wait : Type 0) (coding : Coding) where
         backed : Backed May tree
         backed = entered_backed called May (λ gives left. inr (inr (gives, refl))) coding v.state stage at (λ fault is left. inr (inl is)) (λ fault s none leaf. inl (s, leaf))
 
-        reason : (fault : FtpError) → keeps stage' ≡ Some fault → IsGrave fault → PollsTo link (begun_at stage) tree place (entered_at called stage v) w Pending → IsGivenBeside link fault v.net w.net ⊎ Besides fault
+        reason : (fault : FtpError) → kept_error stage' ≡ Some fault → IsGrave fault → PollsTo link (begun_at stage) tree place (entered_at called stage v) w Pending → IsGivenBeside link fault v.net w.net ⊎ Besides fault
         reason fault is grave (last, (advances, waits), same) = go (of_stage fault grave coding (entered_state called stage v.state) (Since May (outcomes_of leads.answered)) called stage' is (place_backed May (outcomes_of leads.answered) place tree leads.within backed))
           where
             leads : Leads link tree place (entered_at called stage v) last
@@ -356,29 +356,29 @@ module _ (link : Link) (may_wait : Type 0) (coding : Coding) where
         go false starts = starts_grounds stage' v w told starts
         go true d = drained d
 
-    next_keeps : (stage' : Stage) (v w : SessionValue) → PollsNext link may_wait coding called stage stage' v w Pending → KeepsOn link called (keeps stage) (keeps stage') v w
+    next_keeps : (stage' : Stage) (v w : SessionValue) → PollsNext link may_wait coding called stage stage' v w Pending → KeepsOn link called (kept_error stage) (kept_error stage') v w
     next_keeps stage' v w next = go (due_of called v) next.polls
       where
-        drained : (d : DrainsFirst link may_wait coding called stage stage' v w Pending) → KeepsOn link called (keeps stage) (keeps stage') v w
+        drained : (d : DrainsFirst link may_wait coding called stage stage' v w Pending) → KeepsOn link called (kept_error stage) (kept_error stage') v w
         drained d = first d.first d.drains d.then_starts
           where
-            then : (b : Bool) (one : Answer) → is_unit one ≡ b → StartsTo link may_wait coding call.Drain (At First) d.at v d.middle (Ready one) → ThenStartsIf b link may_wait coding called stage stage' one d.middle w Pending → KeepsOn link called (keeps stage) (keeps stage') v w
+            then : (b : Bool) (one : Answer) → is_unit one ≡ b → StartsTo link may_wait coding call.Drain (At First) d.at v d.middle (Ready one) → ThenStartsIf b link may_wait coding called stage stage' one d.middle w Pending → KeepsOn link called (kept_error stage) (kept_error stage') v w
             then true one is drains starts =
                 let P : Answer → Type 0 = λ a. StartsTo link may_wait coding call.Drain (At First) d.at v d.middle (Ready a) in
-                keeps_after link called (keeps stage) (keeps stage') v d.middle w (starts_happen call.Drain (At First) d.at v d.middle (subst P (unit_of one is) drains)) (waits_keep stage' d.middle w starts)
+                keeps_after link called (kept_error stage) (kept_error stage') v d.middle w (starts_happen call.Drain (At First) d.at v d.middle (subst P (unit_of one is) drains)) (waits_keep stage' d.middle w starts)
             then false one is drains (same, stays) = not_ready one same
 
-            first : (one : Poll Answer) → StartsTo link may_wait coding call.Drain (At First) d.at v d.middle one → ThenStarts link may_wait coding called stage stage' one d.middle w Pending → KeepsOn link called (keeps stage) (keeps stage') v w
+            first : (one : Poll Answer) → StartsTo link may_wait coding call.Drain (At First) d.at v d.middle one → ThenStarts link may_wait coding called stage stage' one d.middle w Pending → KeepsOn link called (kept_error stage) (kept_error stage') v w
             first (Ready one) drains starts = then (is_unit one) one refl drains starts
             first Pending drains waits = keeps_still link called stage stage' v w waits.2
 
-        go : (b : Bool) → PollsNextIf b link may_wait coding called stage stage' v w Pending → KeepsOn link called (keeps stage) (keeps stage') v w
+        go : (b : Bool) → PollsNextIf b link may_wait coding called stage stage' v w Pending → KeepsOn link called (kept_error stage) (kept_error stage') v w
         go false starts = waits_keep stage' v w starts
         go true d = drained d
 
-    pub next_caused : (stage' : Stage) (v w : SessionValue) (result : Poll Answer) → PollsNext link may_wait coding called stage stage' v w result → CausesPoll link called (keeps stage) (keeps stage') v w result
-    next_caused stage' v w (Ready told) next = answer_caused link called (keeps stage) v w told (next_grounds stage' v w told next)
-    next_caused stage' v w Pending next = kept_caused link called (keeps stage) (keeps stage') v w (next_keeps stage' v w next)
+    pub next_caused : (stage' : Stage) (v w : SessionValue) (result : Poll Answer) → PollsNext link may_wait coding called stage stage' v w result → CausesPoll link called (kept_error stage) (kept_error stage') v w result
+    next_caused stage' v w (Ready told) next = answer_caused link called (kept_error stage) v w told (next_grounds stage' v w told next)
+    next_caused stage' v w Pending next = kept_caused link called (kept_error stage) (kept_error stage') v w (next_keeps stage' v w next)
 
     -- and after the replies that are due to commands that were dropped
     caught_happens : (v middle : SessionValue) → CatchesUp (unasked link) (is_plain_read called) v middle (Ready None) → Happens link v.net middle.net
@@ -410,22 +410,22 @@ module _ (link : Link) (may_wait : Type 0) (coding : Coding) where
         go false next = next_grounds stage' v w told next.1
         go true c = caught c
 
-    step_keeps : (stage' : Stage) (behind : Bool) (v w : SessionValue) → PollsInStep link may_wait coding called stage stage' behind v w Pending → KeepsOn link called (keeps stage) (keeps stage') v w
+    step_keeps : (stage' : Stage) (behind : Bool) (v w : SessionValue) → PollsInStep link may_wait coding called stage stage' behind v w Pending → KeepsOn link called (kept_error stage) (kept_error stage') v w
     step_keeps stage' behind v w step = go (is_behind called v) step.polls
       where
-        caught : (c : CatchesUpThenPolls link may_wait coding called stage stage' behind v w Pending) → KeepsOn link called (keeps stage) (keeps stage') v w
+        caught : (c : CatchesUpThenPolls link may_wait coding called stage stage' behind v w Pending) → KeepsOn link called (kept_error stage) (kept_error stage') v w
         caught c = first c.caught c.catches_up c.then_polls
           where
-            then : (ends : Bool) → CatchesUp (unasked link) (is_plain_read called) v c.middle (Ready None) → EndsOrPolls ends link may_wait coding called stage stage' c.middle w Pending → KeepsOn link called (keeps stage) (keeps stage') v w
+            then : (ends : Bool) → CatchesUp (unasked link) (is_plain_read called) v c.middle (Ready None) → EndsOrPolls ends link may_wait coding called stage stage' c.middle w Pending → KeepsOn link called (kept_error stage) (kept_error stage') v w
             then true up (same, stays) = not_ready answer.Unit same
-            then false up polls = keeps_after link called (keeps stage) (keeps stage') v c.middle w (caught_happens v c.middle up) (next_keeps stage' c.middle w polls)
+            then false up polls = keeps_after link called (kept_error stage) (kept_error stage') v c.middle w (caught_happens v c.middle up) (next_keeps stage' c.middle w polls)
 
-            first : (one : Poll (Option FtpError)) → CatchesUp (unasked link) (is_plain_read called) v c.middle one → ThenPolls link may_wait coding called stage stage' one c.middle w Pending → KeepsOn link called (keeps stage) (keeps stage') v w
+            first : (one : Poll (Option FtpError)) → CatchesUp (unasked link) (is_plain_read called) v c.middle one → ThenPolls link may_wait coding called stage stage' one c.middle w Pending → KeepsOn link called (kept_error stage) (kept_error stage') v w
             first (Ready None) up polls = then (drains called) up polls
             first (Ready (Some fault)) up (same, stays) = not_ready (Fault fault) same
             first Pending up waits = keeps_still link called stage stage' v w waits.2
 
-        go : (b : Bool) → PollsInStepIf b link may_wait coding called stage stage' behind v w Pending → KeepsOn link called (keeps stage) (keeps stage') v w
+        go : (b : Bool) → PollsInStepIf b link may_wait coding called stage stage' behind v w Pending → KeepsOn link called (kept_error stage) (kept_error stage') v w
         go false next = next_keeps stage' v w next.1
         go true c = caught c
 
@@ -441,11 +441,11 @@ module _ (link : Link) (may_wait : Type 0) (coding : Coding) where
   looked_happens : (looks : Bool) (mark after : Option End) (old seen : SessionValue) → LooksFirst looks mark after old seen → Happens link old.net seen.net
   looked_happens looks mark after old seen look = happens_to link old.net old.net seen.net (looked_net looks mark after old seen look) (nothing_happens link old.net)
 
-  pub polls_caused : (p q : UnderWay) (mark after : Option End) (old new : SessionValue) (result : Poll Answer) → StageIn (Some p.call) p.stage → PollsCall link may_wait coding p q mark after old new result → CausesPoll link p.call (keeps p.stage) (keeps q.stage) old new result
-  polls_caused p q mark after old new (Ready told) at polls = answer_caused link p.call (keeps p.stage) old new told (go p.over polls)
+  pub polls_caused : (p q : UnderWay) (mark after : Option End) (old new : SessionValue) (result : Poll Answer) → StageIn (Some p.call) p.stage → PollsCall link may_wait coding p q mark after old new result → CausesPoll link p.call (kept_error p.stage) (kept_error q.stage) old new result
+  polls_caused p q mark after old new (Ready told) at polls = answer_caused link p.call (kept_error p.stage) old new told (go p.over polls)
     where
       Besides : FtpError → Type 0
-      Besides fault = Also p.call (keeps p.stage) fault
+      Besides fault = Also p.call (kept_error p.stage) fault
 
       go : (b : Bool) → PollsUnless b link may_wait coding p q mark after old new (Ready told) → Grounds link Besides old new told
       go true over =
@@ -455,10 +455,10 @@ module _ (link : Link) (may_wait : Type 0) (coding : Coding) where
           let same = looked_channel p.looks mark after old seen.seen seen.looks in
           let none : NoneFailed old.channel.told seen.seen.channel.told = record { failures = ap (λ c. c.told.failures) same; last_fault = ap (λ c. c.told.last_fault) same } in
           after_part link Besides old seen.seen new told (λ h. none) (λ f. ap (λ c. c.failed) (sym same) ∙ f) (looked_happens p.looks mark after old seen.seen seen.looks) (step_grounds p.call p.stage at seen.stage seen.behind seen.seen new told seen.polls)
-  polls_caused p q mark after old new Pending at polls = kept_caused link p.call (keeps p.stage) (keeps q.stage) old new (go p.over polls)
+  polls_caused p q mark after old new Pending at polls = kept_caused link p.call (kept_error p.stage) (kept_error q.stage) old new (go p.over polls)
     where
-      go : (b : Bool) → PollsUnless b link may_wait coding p q mark after old new Pending → KeepsOn link p.call (keeps p.stage) (keeps q.stage) old new
+      go : (b : Bool) → PollsUnless b link may_wait coding p q mark after old new Pending → KeepsOn link p.call (kept_error p.stage) (kept_error q.stage) old new
       go true over = not_ready (Fault (faults.ConnectionError cause.AlreadyCompleted)) over.is
       go false seen =
-          let P : Option FtpError → Type 0 = λ kept. KeepsOn link p.call (keeps p.stage) kept old new in
-          subst P (ap (λ x. keeps x.stage) (sym seen.next)) (keeps_after link p.call (keeps p.stage) (keeps seen.stage) old seen.seen new (looked_happens p.looks mark after old seen.seen seen.looks) (step_keeps p.call p.stage at seen.stage seen.behind seen.seen new seen.polls))
+          let P : Option FtpError → Type 0 = λ kept. KeepsOn link p.call (kept_error p.stage) kept old new in
+          subst P (ap (λ x. kept_error x.stage) (sym seen.next)) (keeps_after link p.call (kept_error p.stage) (kept_error seen.stage) old seen.seen new (looked_happens p.looks mark after old seen.seen seen.looks) (step_keeps p.call p.stage at seen.stage seen.behind seen.seen new seen.polls))

@@ -6,6 +6,7 @@ pub mod Fetched
 pub mod Files
 pub mod Handed
 pub mod Implicit
+pub mod Kept
 pub mod Locked
 pub mod PollCauses
 pub mod Polled

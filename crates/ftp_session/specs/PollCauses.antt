@@ -49,12 +49,12 @@ kept_of (LastReply form answer) = error_of answer
 kept_of other = None
 
 -- the error that a call keeps at its stage for its answer; on the way to a data connection it keeps none
-abbrev pub keeps : Stage → Option FtpError
-keeps (At turn) = kept_at turn
-keeps (Saying line a) = kept_by a.ending
-keeps (Hearing a) = kept_by a.ending
-keeps (Transferring fetching) = kept_of fetching
-keeps other = None
+abbrev pub kept_error : Stage → Option FtpError
+kept_error (At turn) = kept_at turn
+kept_error (Saying line a) = kept_by a.ending
+kept_error (Hearing a) = kept_by a.ending
+kept_error (Transferring fetching) = kept_of fetching
+kept_error other = None
 
 -- Why an error is returned
 

@@ -7,6 +7,7 @@ ghost use Rattle.ftp_dialogue.specs.Counted.{CountsFaults};
 ghost use Rattle.ftp_dialogue.specs.Link.{blocking};
 ghost use Rattle.ftp_session.specs.Commands.{PlaysCommand};
 ghost use Rattle.ftp_session.specs.Trees.{login_tree, unit_tree};
+ghost use Rattle.ftp_session.specs.Kept.{Keeps};
 
 use ftp_base::command::Command;
 use ftp_base::encoding::Encoding;
@@ -25,14 +26,13 @@ pub fn cwd<Tr: Network, K: Drop, E: Encoding, B: Drop>(
 ) -> FtpResult<()>
 where
     Tr::Conn: Conn,
-    ensures plays { PlaysCommand (blocking Tr.Conn.Conn)
-        (unit_tree (chosen E.decoded E.encoded session.old.encoding.0)
-        (Command.Cwd path.now) (Codes.Either Status.CommandOk Status.RequestedFileActionOk))
-        session.old.mark session.new.mark session.old.machine session.new.machine (unit_answer result) }
-    ensures counts { CountsFaults Tr.Conn.tells session.old.machine session.new.machine (unit_answer result) }
-    ensures encoding { session.new.encoding ≡ session.old.encoding }
-    ensures builder { session.new.builder ≡ session.old.builder }
-    ensures former { session.new.former ≡ session.old.former }
+    ensures plays { PlaysCommand (blocking Tr.Conn.Conn) (unit_tree
+        (chosen E.decoded E.encoded session.old.encoding.0) (Command.Cwd path.now)
+        (Codes.Either Status.CommandOk Status.RequestedFileActionOk)) session.old.mark
+        session.new.mark session.old.machine session.new.machine (unit_answer result) }
+    ensures counts { CountsFaults Tr.Conn.tells session.old.machine session.new.machine
+        (unit_answer result) }
+    ensures keeps { Keeps session.old session.new }
 {
     session.cwd(alloc, path)
 }
@@ -46,12 +46,12 @@ pub fn login<Tr: Network, K: Drop, E: Encoding, B: Drop>(
 ) -> FtpResult<()>
 where
     Tr::Conn: Conn,
-    ensures plays { PlaysCommand (blocking Tr.Conn.Conn) (login_tree (chosen E.decoded E.encoded session.old.encoding.0) user.now password.now)
-        session.old.mark session.new.mark session.old.machine session.new.machine (unit_answer result) }
-    ensures counts { CountsFaults Tr.Conn.tells session.old.machine session.new.machine (unit_answer result) }
-    ensures encoding { session.new.encoding ≡ session.old.encoding }
-    ensures builder { session.new.builder ≡ session.old.builder }
-    ensures former { session.new.former ≡ session.old.former }
+    ensures plays { PlaysCommand (blocking Tr.Conn.Conn) (login_tree
+        (chosen E.decoded E.encoded session.old.encoding.0) user.now password.now) session.old.mark
+        session.new.mark session.old.machine session.new.machine (unit_answer result) }
+    ensures counts { CountsFaults Tr.Conn.tells session.old.machine session.new.machine
+        (unit_answer result) }
+    ensures keeps { Keeps session.old session.new }
 {
     session.login(alloc, user, password)
 }

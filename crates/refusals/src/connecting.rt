@@ -25,12 +25,14 @@ where
     ensures encoding { IfOk result (λ session. session.encoding.0 ≡ None) }
     ensures builder { IfOk result (λ session. session.builder ≡ None) }
     ensures mark { IfOk result (λ session. session.mark ≡ None) }
-    ensures connects { MatchResult result
-        (λ session. Connects (blocking Tr.Conn.Conn) (chosen E.decoded E.encoded None) ReplyRule.Strict (Tr.Conn.told conn)
-        (first_net (Tr.asked transport) (Tr.ready transport) (Tr.closed transport)) session.machine (Ok tt))
-        (λ fault. FailsToConnect (blocking Tr.Conn.Conn) (chosen E.decoded E.encoded None) ReplyRule.Strict (Tr.Conn.told conn)
-        (first_net (Tr.asked transport) (Tr.ready transport) (Tr.closed transport)) fault) }
-    ensures counts { IfErr result (λ fault. CountsInGreeting (blocking Tr.Conn.Conn) (chosen E.decoded E.encoded None) ReplyRule.Strict (Tr.Conn.told conn)
+    ensures connects { MatchResult result (λ session. Connects (blocking Tr.Conn.Conn)
+        (chosen E.decoded E.encoded None) ReplyRule.Strict (Tr.Conn.told conn)
+        (first_net (Tr.asked transport) (Tr.ready transport) (Tr.closed transport)) session.machine
+        (Ok tt)) (λ fault. FailsToConnect (blocking Tr.Conn.Conn) (chosen E.decoded E.encoded None)
+        ReplyRule.Strict (Tr.Conn.told conn) (first_net (Tr.asked transport) (Tr.ready transport)
+        (Tr.closed transport)) fault) }
+    ensures counts { IfErr result (λ fault. CountsInGreeting (blocking Tr.Conn.Conn)
+        (chosen E.decoded E.encoded None) ReplyRule.Strict (Tr.Conn.told conn)
         (first_net (Tr.asked transport) (Tr.ready transport) (Tr.closed transport)) fault) }
 {
     Session::connect_with_stream(alloc, transport, conn)

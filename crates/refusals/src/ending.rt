@@ -7,6 +7,7 @@ ghost use Rattle.ftp_dialogue.specs.Coding.{chosen};
 ghost use Rattle.ftp_dialogue.specs.Counted.{CountsFaults, CountsFaultsBeside};
 ghost use Rattle.ftp_session.specs.Handed.{BringsToEnd, Settles, with_data};
 ghost use Rattle.ftp_dialogue.specs.Link.{blocking};
+ghost use Rattle.ftp_session.specs.Kept.{Keeps};
 
 use ftp_base::encoding::Encoding;
 use ftp_base::types::FtpResult;
@@ -24,12 +25,13 @@ pub fn finish<Tr: Network, K: Drop, E: Encoding, B: Drop>(
 ) -> FtpResult<()>
 where
     Tr::Conn: Conn,
-    ensures finishes { BringsToEnd (blocking Tr.Conn.Conn) (chosen E.decoded E.encoded session.old.encoding.0) Call.Finish transfer
-        session.old.mark session.new.mark session.old.machine session.new.machine (unit_answer result) }
-    ensures counts { CountsFaultsBeside (blocking Tr.Conn.Conn) (with_data (Some transfer.told) session.old.machine) session.new.machine (unit_answer result) }
-    ensures encoding { session.new.encoding ≡ session.old.encoding }
-    ensures builder { session.new.builder ≡ session.old.builder }
-    ensures former { session.new.former ≡ session.old.former }
+    ensures finishes { BringsToEnd (blocking Tr.Conn.Conn)
+        (chosen E.decoded E.encoded session.old.encoding.0) Call.Finish transfer session.old.mark
+        session.new.mark session.old.machine session.new.machine (unit_answer result) }
+    ensures counts { CountsFaultsBeside (blocking Tr.Conn.Conn)
+        (with_data (Some transfer.told) session.old.machine) session.new.machine
+        (unit_answer result) }
+    ensures keeps { Keeps session.old session.new }
 {
     session.finish(alloc, transfer)
 }
@@ -42,12 +44,13 @@ pub fn abort<Tr: Network, K: Drop, E: Encoding, B: Drop>(
 ) -> FtpResult<()>
 where
     Tr::Conn: Conn,
-    ensures aborts { BringsToEnd (blocking Tr.Conn.Conn) (chosen E.decoded E.encoded session.old.encoding.0) Call.Abort transfer
-        session.old.mark session.new.mark session.old.machine session.new.machine (unit_answer result) }
-    ensures counts { CountsFaultsBeside (blocking Tr.Conn.Conn) (with_data (Some transfer.told) session.old.machine) session.new.machine (unit_answer result) }
-    ensures encoding { session.new.encoding ≡ session.old.encoding }
-    ensures builder { session.new.builder ≡ session.old.builder }
-    ensures former { session.new.former ≡ session.old.former }
+    ensures aborts { BringsToEnd (blocking Tr.Conn.Conn) (chosen E.decoded E.encoded
+        session.old.encoding.0) Call.Abort transfer session.old.mark session.new.mark
+        session.old.machine session.new.machine (unit_answer result) }
+    ensures counts { CountsFaultsBeside (blocking Tr.Conn.Conn)
+        (with_data (Some transfer.told) session.old.machine) session.new.machine
+        (unit_answer result) }
+    ensures keeps { Keeps session.old session.new }
 {
     session.abort(alloc, transfer)
 }
@@ -60,14 +63,14 @@ pub fn settle<Tr: Network, K: Drop, E: Encoding, B: Drop>(
 ) -> FtpResult<()>
 where
     Tr::Conn: Conn,
-    ensures settles { Settles (blocking Tr.Conn.Conn) (chosen E.decoded E.encoded session.old.encoding.0) left.old
-        session.old.machine session.new.machine (unit_answer result) }
-    ensures counts { CountsFaults Tr.Conn.tells session.old.machine session.new.machine (unit_answer result) }
+    ensures settles { Settles (blocking Tr.Conn.Conn) (chosen E.decoded E.encoded
+        session.old.encoding.0) left.old session.old.machine session.new.machine
+        (unit_answer result) }
+    ensures counts { CountsFaults Tr.Conn.tells session.old.machine session.new.machine
+        (unit_answer result) }
     ensures looks { left.new ≡ loaded true left.old }
     ensures mark { session.new.mark ≡ session.old.mark }
-    ensures encoding { session.new.encoding ≡ session.old.encoding }
-    ensures builder { session.new.builder ≡ session.old.builder }
-    ensures former { session.new.former ≡ session.old.former }
+    ensures keeps { Keeps session.old session.new }
 {
     session.settle(alloc, left)
 }

@@ -36,8 +36,8 @@ where
     requires channel { is_local call.now ≡ false }
     requires blocks { A.may_wait → ⊥ }
     ensures answers { of_transfer call.now ≡ false → MayAnswer call.now result }
-    ensures made { MadeDrained (asking (A.builds asker.now) A.may_wait (blocking Tr.Conn.Conn)) (coding_of E.decoded E.encoded encoding.now) call.now
-        machine.old machine.new result }
+    ensures made { MadeDrained (asking (A.builds asker.now) A.may_wait (blocking Tr.Conn.Conn))
+        (coding_of E.decoded E.encoded encoding.now) call.now machine.old machine.new result }
 {
     machine.call(asker, alloc, encoding, call)
 }
@@ -56,8 +56,8 @@ where
     requires channel { is_local call.now ≡ false }
     requires blocks { A.may_wait → ⊥ }
     ensures answers { (refusal_of call.now machine.old ≡ Lacking → ⊥) → MayAnswer call.now result }
-    ensures made { Made (asking (A.builds asker.now) A.may_wait (blocking Tr.Conn.Conn)) (coding_of E.decoded E.encoded encoding.now) call.now
-        machine.old machine.new result }
+    ensures made { Made (asking (A.builds asker.now) A.may_wait (blocking Tr.Conn.Conn))
+        (coding_of E.decoded E.encoded encoding.now) call.now machine.old machine.new result }
 {
     machine.call_alone(asker, alloc, encoding, call)
 }
@@ -77,9 +77,10 @@ where
     requires blocks { A.may_wait → ⊥ }
     requires unheld { of_transfer call.now ≡ false }
     ensures answers { MayAnswer call.now result }
-    ensures made { InStepIf (is_behind call.now machine.old) (blocking Tr.Conn.Conn) (is_plain_read call.now) (drains call.now)
-        (MadeDrained (asking (A.builds asker.now) A.may_wait (blocking Tr.Conn.Conn)) (coding_of E.decoded E.encoded encoding.now) call.now)
-        machine.old machine.new result }
+    ensures made { InStepIf (is_behind call.now machine.old) (blocking Tr.Conn.Conn)
+        (is_plain_read call.now) (drains call.now) (MadeDrained
+        (asking (A.builds asker.now) A.may_wait (blocking Tr.Conn.Conn))
+        (coding_of E.decoded E.encoded encoding.now) call.now) machine.old machine.new result }
 {
     machine.call_in_step(asker, alloc, encoding, call)
 }
@@ -95,7 +96,8 @@ where
     Tr::Conn: PollConn<W>,
     requires going { machine.old.channel.failed ≡ false }
     ensures waits { result ≡ poll.Pending → Tr.Conn.may_wait }
-    ensures catches_up { CatchesUp (polling Tr.Conn.PollConn) (is_plain_read call.now) machine.old machine.new result }
+    ensures catches_up { CatchesUp (polling Tr.Conn.PollConn) (is_plain_read call.now) machine.old
+        machine.new result }
 {
     machine.poll_catch_up(alloc, call, w)
 }

@@ -6,6 +6,7 @@ ghost use Rattle.ftp_dialogue.specs.Coding.{chosen};
 ghost use Rattle.ftp_dialogue.specs.Counted.{CountsFaults};
 ghost use Rattle.ftp_dialogue.specs.Link.{blocking};
 ghost use Rattle.ftp_session.specs.Handed.{PlaysSeen};
+ghost use Rattle.ftp_session.specs.Kept.{Keeps};
 
 use ftp_base::encoding::Encoding;
 use ftp_base::types::FtpResult;
@@ -20,12 +21,12 @@ pub fn resync<Tr: Network, K: Drop, E: Encoding, B: Drop>(
 ) -> FtpResult<()>
 where
     Tr::Conn: Conn,
-    ensures plays { PlaysSeen (blocking Tr.Conn.Conn) (chosen E.decoded E.encoded session.old.encoding.0) Call.Resync
-        session.old.mark session.new.mark session.old.machine session.new.machine (unit_answer result) }
-    ensures counts { CountsFaults Tr.Conn.tells session.old.machine session.new.machine (unit_answer result) }
-    ensures encoding { session.new.encoding ≡ session.old.encoding }
-    ensures builder { session.new.builder ≡ session.old.builder }
-    ensures former { session.new.former ≡ session.old.former }
+    ensures plays { PlaysSeen (blocking Tr.Conn.Conn) (chosen E.decoded E.encoded
+        session.old.encoding.0) Call.Resync session.old.mark session.new.mark session.old.machine
+        session.new.machine (unit_answer result) }
+    ensures counts { CountsFaults Tr.Conn.tells session.old.machine session.new.machine
+        (unit_answer result) }
+    ensures keeps { Keeps session.old session.new }
 {
     session.resync(alloc)
 }

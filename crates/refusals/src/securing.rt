@@ -5,6 +5,7 @@ ghost use Rattle.ftp_dialogue.specs.Coding.{chosen};
 ghost use Rattle.ftp_dialogue.specs.Link.{blocking};
 ghost use Rattle.ftp_session.specs.Counting.{CountsSecuring};
 ghost use Rattle.ftp_session.specs.Securing.{HandsOver, Secures};
+ghost use Rattle.ftp_session.specs.Kept.{Keeps};
 
 use ftp_base::encoding::Encoding;
 use ftp_base::types::FtpResult;
@@ -22,15 +23,14 @@ pub fn into_secure<Tr: SecureTransport<K>, K: Drop, E: Encoding, B: Drop>(
 ) -> FtpResult<()>
 where
     Tr::Conn: Conn,
-    ensures secures { Secures (blocking Tr.Conn.Conn)
-        (HandsOver Tr.Conn Tr.Conn.told Tr.gives (Tr.answers connector domain.now)) (chosen E.decoded E.encoded session.old.encoding.0)
+    ensures secures { Secures (blocking Tr.Conn.Conn) (HandsOver Tr.Conn Tr.Conn.told Tr.gives
+        (Tr.answers connector domain.now)) (chosen E.decoded E.encoded session.old.encoding.0)
         session.old.mark session.new.mark session.old.machine session.new.machine result }
     ensures counts { IfErr result (λ fault. CountsSecuring (blocking Tr.Conn.Conn)
-        (HandsOver Tr.Conn Tr.Conn.told Tr.gives (Tr.answers connector domain.now)) (chosen E.decoded E.encoded session.old.encoding.0)
-        session.old.mark session.old.machine session.new.machine fault) }
-    ensures encoding { session.new.encoding ≡ session.old.encoding }
-    ensures builder { session.new.builder ≡ session.old.builder }
-    ensures former { session.new.former ≡ session.old.former }
+        (HandsOver Tr.Conn Tr.Conn.told Tr.gives (Tr.answers connector domain.now))
+        (chosen E.decoded E.encoded session.old.encoding.0) session.old.mark session.old.machine
+        session.new.machine fault) }
+    ensures keeps { Keeps session.old session.new }
 {
     session.into_secure(alloc, connector, domain)
 }

@@ -10,6 +10,7 @@ ghost use Rattle.ftp_session.specs.Counting.{CountsDownload, CountsSaving};
 ghost use Rattle.ftp_session.specs.Files.{Retrieves, WritesTo};
 ghost use Rattle.ftp_session.specs.Handed.{Opens, PlaysSeen};
 ghost use Rattle.ftp_transfer.specs.declared.direction.Direction.TheVariants as directions;
+ghost use Rattle.ftp_session.specs.Kept.{Keeps, KeepsChoices};
 
 use ftp_base::encoding::Encoding;
 use ftp_base::types::FtpResult;
@@ -29,11 +30,14 @@ pub fn retr_as_stream<Tr: Network, K: Drop, E: Encoding, B: PassiveStreamBuilder
 where
     Tr::Conn: Conn,
     Tr: Transport<R>,
-    ensures opens { Opens (asking (built_by B.answers session.old.builder) ⊥ (blocking Tr.Conn.Conn)) (chosen E.decoded E.encoded session.old.encoding.0) (Call.RetrAsStream path.now)
-        directions.Download session.old.mark session.new.mark session.old.former session.new.former session.old.machine session.new.machine result }
-    ensures counts { IfErr result (λ fault. CountsFaultsBeside (asking (built_by B.answers session.old.builder) ⊥ (blocking Tr.Conn.Conn)) session.old.machine session.new.machine (Fault fault)) }
-    ensures encoding { session.new.encoding ≡ session.old.encoding }
-    ensures builder { session.new.builder ≡ session.old.builder }
+    ensures opens { Opens (asking (built_by B.answers session.old.builder) ⊥
+        (blocking Tr.Conn.Conn)) (chosen E.decoded E.encoded session.old.encoding.0)
+        (Call.RetrAsStream path.now) directions.Download session.old.mark session.new.mark
+        session.old.former session.new.former session.old.machine session.new.machine result }
+    ensures counts { IfErr result (λ fault. CountsFaultsBeside
+        (asking (built_by B.answers session.old.builder) ⊥ (blocking Tr.Conn.Conn))
+        session.old.machine session.new.machine (Fault fault)) }
+    ensures keeps { KeepsChoices session.old session.new }
 {
     session.retr_as_stream(alloc, rt, path)
 }
@@ -48,11 +52,14 @@ pub fn append_with_stream<Tr: Network, K: Drop, E: Encoding, B: PassiveStreamBui
 where
     Tr::Conn: Conn,
     Tr: Transport<R>,
-    ensures opens { Opens (asking (built_by B.answers session.old.builder) ⊥ (blocking Tr.Conn.Conn)) (chosen E.decoded E.encoded session.old.encoding.0) (Call.AppendWithStream path.now)
-        directions.Upload session.old.mark session.new.mark session.old.former session.new.former session.old.machine session.new.machine result }
-    ensures counts { IfErr result (λ fault. CountsFaultsBeside (asking (built_by B.answers session.old.builder) ⊥ (blocking Tr.Conn.Conn)) session.old.machine session.new.machine (Fault fault)) }
-    ensures encoding { session.new.encoding ≡ session.old.encoding }
-    ensures builder { session.new.builder ≡ session.old.builder }
+    ensures opens { Opens (asking (built_by B.answers session.old.builder) ⊥
+        (blocking Tr.Conn.Conn)) (chosen E.decoded E.encoded session.old.encoding.0)
+        (Call.AppendWithStream path.now) directions.Upload session.old.mark session.new.mark
+        session.old.former session.new.former session.old.machine session.new.machine result }
+    ensures counts { IfErr result (λ fault. CountsFaultsBeside
+        (asking (built_by B.answers session.old.builder) ⊥ (blocking Tr.Conn.Conn))
+        session.old.machine session.new.machine (Fault fault)) }
+    ensures keeps { KeepsChoices session.old session.new }
 {
     session.append_with_stream(alloc, rt, path)
 }
@@ -67,12 +74,13 @@ pub fn retr_as_buffer<Tr: Network, K: Drop, E: Encoding, B: PassiveStreamBuilder
 where
     Tr::Conn: Conn,
     Tr: Transport<R>,
-    ensures fetches { PlaysSeen (asking (built_by B.answers session.old.builder) ⊥ (blocking Tr.Conn.Conn)) (chosen E.decoded E.encoded session.old.encoding.0) (Call.Retr path.now)
-        session.old.mark session.new.mark session.old.machine session.new.machine (bytes_answer result) }
-    ensures counts { CountsFaultsBeside (asking (built_by B.answers session.old.builder) ⊥ (blocking Tr.Conn.Conn)) session.old.machine session.new.machine (bytes_answer result) }
-    ensures encoding { session.new.encoding ≡ session.old.encoding }
-    ensures builder { session.new.builder ≡ session.old.builder }
-    ensures former { session.new.former ≡ session.old.former }
+    ensures fetches { PlaysSeen (asking (built_by B.answers session.old.builder) ⊥
+        (blocking Tr.Conn.Conn)) (chosen E.decoded E.encoded session.old.encoding.0)
+        (Call.Retr path.now) session.old.mark session.new.mark session.old.machine
+        session.new.machine (bytes_answer result) }
+    ensures counts { CountsFaultsBeside (asking (built_by B.answers session.old.builder) ⊥
+        (blocking Tr.Conn.Conn)) session.old.machine session.new.machine (bytes_answer result) }
+    ensures keeps { Keeps session.old session.new }
 {
     session.retr_as_buffer(alloc, rt, path)
 }
@@ -87,12 +95,13 @@ pub fn nlst<Tr: Network, K: Drop, E: Encoding, B: PassiveStreamBuilder<Tr::Conn>
 where
     Tr::Conn: Conn,
     Tr: Transport<R>,
-    ensures fetches { PlaysSeen (asking (built_by B.answers session.old.builder) ⊥ (blocking Tr.Conn.Conn)) (chosen E.decoded E.encoded session.old.encoding.0) (Call.Nlst (option_map (λ text. text.now) path.entry))
-        session.old.mark session.new.mark session.old.machine session.new.machine (lines_answer result) }
-    ensures counts { CountsFaultsBeside (asking (built_by B.answers session.old.builder) ⊥ (blocking Tr.Conn.Conn)) session.old.machine session.new.machine (lines_answer result) }
-    ensures encoding { session.new.encoding ≡ session.old.encoding }
-    ensures builder { session.new.builder ≡ session.old.builder }
-    ensures former { session.new.former ≡ session.old.former }
+    ensures fetches { PlaysSeen (asking (built_by B.answers session.old.builder) ⊥
+        (blocking Tr.Conn.Conn)) (chosen E.decoded E.encoded session.old.encoding.0)
+        (Call.Nlst (option_map (λ text. text.now) path.entry)) session.old.mark session.new.mark
+        session.old.machine session.new.machine (lines_answer result) }
+    ensures counts { CountsFaultsBeside (asking (built_by B.answers session.old.builder) ⊥
+        (blocking Tr.Conn.Conn)) session.old.machine session.new.machine (lines_answer result) }
+    ensures keeps { Keeps session.old session.new }
 {
     session.nlst(alloc, rt, path)
 }
@@ -116,12 +125,17 @@ pub fn retr<
 where
     Tr::Conn: Conn,
     Tr: Transport<R>,
-    ensures retrieves { Retrieves (asking (built_by B.answers session.old.builder) ⊥ (blocking Tr.Conn.Conn)) (blocking Tr.Conn.Conn) (chosen E.decoded E.encoded session.old.encoding.0) (Call.RetrAsStream path.now)
-        F.reads session.old.mark session.new.mark session.old.former session.new.former session.old.machine session.new.machine result }
-    ensures counts { IfErr result (λ fault. CountsDownload (asking (built_by B.answers session.old.builder) ⊥ (blocking Tr.Conn.Conn)) (blocking Tr.Conn.Conn) (chosen E.decoded E.encoded session.old.encoding.0) (Call.RetrAsStream path.now)
-        F.reads session.old.mark session.old.former session.new.former session.old.machine session.new.machine fault) }
-    ensures encoding { session.new.encoding ≡ session.old.encoding }
-    ensures builder { session.new.builder ≡ session.old.builder }
+    ensures retrieves { Retrieves (asking (built_by B.answers session.old.builder) ⊥
+        (blocking Tr.Conn.Conn)) (blocking Tr.Conn.Conn) (chosen E.decoded E.encoded
+        session.old.encoding.0) (Call.RetrAsStream path.now) F.reads session.old.mark
+        session.new.mark session.old.former session.new.former session.old.machine
+        session.new.machine result }
+    ensures counts { IfErr result (λ fault. CountsDownload
+        (asking (built_by B.answers session.old.builder) ⊥ (blocking Tr.Conn.Conn))
+        (blocking Tr.Conn.Conn) (chosen E.decoded E.encoded session.old.encoding.0)
+        (Call.RetrAsStream path.now) F.reads session.old.mark session.old.former session.new.former
+        session.old.machine session.new.machine fault) }
+    ensures keeps { KeepsChoices session.old session.new }
 {
     session.retr(alloc, rt, path, reader)
 }
@@ -146,12 +160,17 @@ pub fn write_to<
 where
     Tr::Conn: Conn,
     Tr: Transport<R>,
-    ensures writes { WritesTo (asking (built_by B.answers session.old.builder) ⊥ (blocking Tr.Conn.Conn)) (blocking Tr.Conn.Conn) (chosen E.decoded E.encoded session.old.encoding.0) (Call.RetrAsStream path.now)
-        (W.contents writer.old) (W.contents writer.new) session.old.mark session.new.mark session.old.former session.new.former session.old.machine session.new.machine result }
-    ensures counts { IfErr result (λ fault. CountsSaving (asking (built_by B.answers session.old.builder) ⊥ (blocking Tr.Conn.Conn)) (blocking Tr.Conn.Conn) (chosen E.decoded E.encoded session.old.encoding.0) (Call.RetrAsStream path.now)
-        (W.contents writer.old) (W.contents writer.new) session.old.mark session.old.former session.new.former session.old.machine session.new.machine fault) }
-    ensures encoding { session.new.encoding ≡ session.old.encoding }
-    ensures builder { session.new.builder ≡ session.old.builder }
+    ensures writes { WritesTo (asking (built_by B.answers session.old.builder) ⊥
+        (blocking Tr.Conn.Conn)) (blocking Tr.Conn.Conn) (chosen E.decoded E.encoded
+        session.old.encoding.0) (Call.RetrAsStream path.now) (W.contents writer.old)
+        (W.contents writer.new) session.old.mark session.new.mark session.old.former
+        session.new.former session.old.machine session.new.machine result }
+    ensures counts { IfErr result (λ fault. CountsSaving (asking
+        (built_by B.answers session.old.builder) ⊥ (blocking Tr.Conn.Conn)) (blocking Tr.Conn.Conn)
+        (chosen E.decoded E.encoded session.old.encoding.0) (Call.RetrAsStream path.now)
+        (W.contents writer.old) (W.contents writer.new) session.old.mark session.old.former
+        session.new.former session.old.machine session.new.machine fault) }
+    ensures keeps { KeepsChoices session.old session.new }
 {
     session.write_to(alloc, rt, path, writer, progress)
 }

@@ -7,10 +7,11 @@ ghost use Rattle.ftp_calls.specs.Listing.{listing};
 
 use ftp_base::retry::GREATEST_HELD;
 use ftp_base::types::{FtpError, FtpResult};
+use ftp_calls::answers;
 use std::alloc::Global;
 use std::io::Read;
 
-/// `ftp_calls::answers::get_lines_from_stream`.
+/// `answers::get_lines_from_stream`.
 pub fn get_lines_from_stream<R: Read>(alloc: Global, reader: &mut R) -> FtpResult<Vec<String>>
     ensures lines { IfOk result (λ lines. IfSome (R.remaining reader.old)
         (λ source. map string_bytes lines.items ≡ listing utf8_lossy source)) }
@@ -20,5 +21,5 @@ pub fn get_lines_from_stream<R: Read>(alloc: Global, reader: &mut R) -> FtpResul
     ensures faults { IfErr result
         (λ fault. (fault ≡ FtpError.BadResponse) ⊎ (fault ≡ FtpError.OutOfMemory)) }
 {
-    ftp_calls::answers::get_lines_from_stream(alloc, reader)
+    answers::get_lines_from_stream(alloc, reader)
 }

@@ -26,10 +26,9 @@ pub fn perform<E: Encoding>(
 ) -> FtpResult<()>
     ensures failed { channel.old.failed ≡ true → (result ≡ Err FtpError.SessionFailed) ×
         (channel.new ≡ channel.old) }
-    ensures performs { channel.old.failed ≡ false →
-        Performs (Unit {0}) (λ told kind. (kind ≡ kinds.OutOfMemory) ⊎
-        ((kind ≡ kinds.WouldBlock) × IsFull told)) (wire (E.encoded encoding.now) (text_of command.now)) channel.old
-        channel.new result }
+    ensures performs { channel.old.failed ≡ false → Performs (Unit {0})
+        (λ told kind. (kind ≡ kinds.OutOfMemory) ⊎ ((kind ≡ kinds.WouldBlock) × IsFull told))
+        (wire (E.encoded encoding.now) (text_of command.now)) channel.old channel.new result }
 {
     channel.perform(alloc, command, encoding)
 }
@@ -42,8 +41,8 @@ pub fn read_response_in(
 ) -> FtpResult<Response>
     ensures failed { channel.old.failed ≡ true → (result ≡ Err FtpError.SessionFailed) ×
         (channel.new ≡ channel.old) }
-    ensures reads { channel.old.failed ≡ false →
-        AnswersRead (Unit {0}) (λ kind. ⊥) (form_of expected.now) expected.now channel.old channel.new (poll.Ready result) }
+    ensures reads { channel.old.failed ≡ false → AnswersRead (Unit {0}) (λ kind. ⊥)
+        (form_of expected.now) expected.now channel.old channel.new (poll.Ready result) }
 {
     channel.read_response_in(alloc, expected)
 }

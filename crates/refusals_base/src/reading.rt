@@ -25,8 +25,8 @@ where
     C: Conn,
     ensures failed { channel.old.failed ≡ true → (result ≡ Err FtpError.SessionFailed) ×
         (channel.new ≡ channel.old) }
-    ensures reads { channel.old.failed ≡ false →
-        AnswersRead C.Tells.tells C.blocking_read_faults (form_of expected.now) expected.now channel.old channel.new (poll.Ready result) }
+    ensures reads { channel.old.failed ≡ false → AnswersRead C.Tells.tells C.blocking_read_faults
+        (form_of expected.now) expected.now channel.old channel.new (poll.Ready result) }
 {
     channel.read_response_in(alloc, expected)
 }

@@ -76,9 +76,9 @@ impl<Tr: Network, K: Drop, E: Encoding, B: Drop> Session<Tr, K, E, B> {
     /// `OutOfMemory` for the buffer of received bytes. The connection is closed.
     pub fn new(alloc: Global, transport: Tr, conn: Tr::Conn) -> FtpResult<Session<Tr, K, E, B>>
         ensures memory { IfErr result (λ fault. fault ≡ FtpError.OutOfMemory) }
-        ensures begins { IfOk result (λ session.
-            Begins Tr.Conn.tells ReplyRule.Strict (Tr.Conn.told conn)
-            (first_net (Tr.asked transport) (Tr.ready transport) (Tr.closed transport)) session.machine) }
+        ensures begins { IfOk result (λ session. Begins Tr.Conn.tells ReplyRule.Strict
+            (Tr.Conn.told conn) (first_net (Tr.asked transport) (Tr.ready transport)
+            (Tr.closed transport)) session.machine) }
         ensures sound { IfOk result (λ session. IsSound Tr.Conn.tells session.machine.channel) }
         ensures encoding { IfOk result (λ session. session.encoding.0 ≡ None) }
         ensures builder { IfOk result (λ session. session.builder ≡ None) }
@@ -95,9 +95,9 @@ impl<Tr: Network, K: Drop, E: Encoding, B: Drop> Session<Tr, K, E, B> {
         rule: ReplyRule,
     ) -> FtpResult<Session<Tr, K, E, B>>
         ensures memory { IfErr result (λ fault. fault ≡ FtpError.OutOfMemory) }
-        ensures begins { IfOk result (λ session.
-            Begins Tr.Conn.tells rule (Tr.Conn.told conn)
-            (first_net (Tr.asked transport) (Tr.ready transport) (Tr.closed transport)) session.machine) }
+        ensures begins { IfOk result (λ session. Begins Tr.Conn.tells rule (Tr.Conn.told conn)
+            (first_net (Tr.asked transport) (Tr.ready transport) (Tr.closed transport))
+            session.machine) }
         ensures sound { IfOk result (λ session. IsSound Tr.Conn.tells session.machine.channel) }
         ensures encoding { IfOk result (λ session. session.encoding.0 ≡ None) }
         ensures builder { IfOk result (λ session. session.builder ≡ None) }
@@ -128,12 +128,14 @@ impl<Tr: Network, K: Drop, E: Encoding, B: Drop> Session<Tr, K, E, B> {
         ensures encoding { IfOk result (λ session. session.encoding.0 ≡ None) }
         ensures builder { IfOk result (λ session. session.builder ≡ None) }
         ensures mark { IfOk result (λ session. session.mark ≡ None) }
-        ensures connects { MatchResult result
-            (λ session. Connects (blocking Tr.Conn.Conn) (chosen E.decoded E.encoded None) ReplyRule.Strict (Tr.Conn.told conn)
-            (first_net (Tr.asked transport) (Tr.ready transport) (Tr.closed transport)) session.machine (Ok tt))
-            (λ fault. FailsToConnect (blocking Tr.Conn.Conn) (chosen E.decoded E.encoded None) ReplyRule.Strict (Tr.Conn.told conn)
+        ensures connects { MatchResult result (λ session. Connects (blocking Tr.Conn.Conn)
+            (chosen E.decoded E.encoded None) ReplyRule.Strict (Tr.Conn.told conn)
+            (first_net (Tr.asked transport) (Tr.ready transport) (Tr.closed transport))
+            session.machine (Ok tt)) (λ fault. FailsToConnect (blocking Tr.Conn.Conn)
+            (chosen E.decoded E.encoded None) ReplyRule.Strict (Tr.Conn.told conn)
             (first_net (Tr.asked transport) (Tr.ready transport) (Tr.closed transport)) fault) }
-        ensures counts { IfErr result (λ fault. CountsInGreeting (blocking Tr.Conn.Conn) (chosen E.decoded E.encoded None) ReplyRule.Strict (Tr.Conn.told conn)
+        ensures counts { IfErr result (λ fault. CountsInGreeting (blocking Tr.Conn.Conn)
+            (chosen E.decoded E.encoded None) ReplyRule.Strict (Tr.Conn.told conn)
             (first_net (Tr.asked transport) (Tr.ready transport) (Tr.closed transport)) fault) }
     {
         Session::greeted(alloc, transport, conn, ReplyRule::Strict)
@@ -153,12 +155,14 @@ impl<Tr: Network, K: Drop, E: Encoding, B: Drop> Session<Tr, K, E, B> {
         ensures encoding { IfOk result (λ session. session.encoding.0 ≡ None) }
         ensures builder { IfOk result (λ session. session.builder ≡ None) }
         ensures mark { IfOk result (λ session. session.mark ≡ None) }
-        ensures connects { MatchResult result
-            (λ session. Connects (blocking Tr.Conn.Conn) (chosen E.decoded E.encoded None) ReplyRule.Lenient (Tr.Conn.told conn)
-            (first_net (Tr.asked transport) (Tr.ready transport) (Tr.closed transport)) session.machine (Ok tt))
-            (λ fault. FailsToConnect (blocking Tr.Conn.Conn) (chosen E.decoded E.encoded None) ReplyRule.Lenient (Tr.Conn.told conn)
+        ensures connects { MatchResult result (λ session. Connects (blocking Tr.Conn.Conn)
+            (chosen E.decoded E.encoded None) ReplyRule.Lenient (Tr.Conn.told conn)
+            (first_net (Tr.asked transport) (Tr.ready transport) (Tr.closed transport))
+            session.machine (Ok tt)) (λ fault. FailsToConnect (blocking Tr.Conn.Conn)
+            (chosen E.decoded E.encoded None) ReplyRule.Lenient (Tr.Conn.told conn)
             (first_net (Tr.asked transport) (Tr.ready transport) (Tr.closed transport)) fault) }
-        ensures counts { IfErr result (λ fault. CountsInGreeting (blocking Tr.Conn.Conn) (chosen E.decoded E.encoded None) ReplyRule.Lenient (Tr.Conn.told conn)
+        ensures counts { IfErr result (λ fault. CountsInGreeting (blocking Tr.Conn.Conn)
+            (chosen E.decoded E.encoded None) ReplyRule.Lenient (Tr.Conn.told conn)
             (first_net (Tr.asked transport) (Tr.ready transport) (Tr.closed transport)) fault) }
     {
         Session::greeted(alloc, transport, conn, ReplyRule::Lenient)
@@ -176,10 +180,11 @@ impl<Tr: Network, K: Drop, E: Encoding, B: Drop> Session<Tr, K, E, B> {
         ensures encoding { IfOk result (λ session. session.encoding.0 ≡ None) }
         ensures builder { IfOk result (λ session. session.builder ≡ None) }
         ensures mark { IfOk result (λ session. session.mark ≡ None) }
-        ensures connects { MatchResult result
-            (λ session. Connects (blocking Tr.Conn.Conn) (chosen E.decoded E.encoded None) rule (Tr.Conn.told conn)
-            (first_net (Tr.asked transport) (Tr.ready transport) (Tr.closed transport)) session.machine (Ok tt))
-            (λ fault. FailsToConnect (blocking Tr.Conn.Conn) (chosen E.decoded E.encoded None) rule (Tr.Conn.told conn)
+        ensures connects { MatchResult result (λ session. Connects (blocking Tr.Conn.Conn)
+            (chosen E.decoded E.encoded None) rule (Tr.Conn.told conn)
+            (first_net (Tr.asked transport) (Tr.ready transport) (Tr.closed transport))
+            session.machine (Ok tt)) (λ fault. FailsToConnect (blocking Tr.Conn.Conn)
+            (chosen E.decoded E.encoded None) rule (Tr.Conn.told conn)
             (first_net (Tr.asked transport) (Tr.ready transport) (Tr.closed transport)) fault) }
     {
         let mut session = Session::by_rule(alloc, transport, conn, rule)?;

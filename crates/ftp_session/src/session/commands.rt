@@ -21,6 +21,7 @@ ghost use Rattle.ftp_session.specs.Trees.{login_tree, read_tree, rename_tree, re
 ghost use Rattle.ftp_dialogue.specs.Promises.{PlaysAlone};
 ghost use Rattle.ftp_calls.specs.Kinds.{GivesNothing, GivesReply, IsPlain};
 ghost use Rattle.ftp_dialogue.specs.Steps.Stages.{MayAnswer};
+ghost use Rattle.ftp_session.specs.Kept.{Keeps};
 
 use super::client::Session;
 use super::looking::look;
@@ -47,13 +48,12 @@ where
     /// # Errors
     /// Those of a read of one reply: a greeting of another status is `UnexpectedResponse`, and the session goes on.
     pub fn greet(&mut self, alloc: Global) -> FtpResult<()>
-        ensures counts { CountsFaults Tr.Conn.tells self.old.machine self.new.machine (unit_answer result) }
-        ensures encoding { self.new.encoding ≡ self.old.encoding }
-        ensures builder { self.new.builder ≡ self.old.builder }
-        ensures former { self.new.former ≡ self.old.former }
+        ensures counts { CountsFaults Tr.Conn.tells self.old.machine self.new.machine
+            (unit_answer result) }
+        ensures keeps { Keeps self.old self.new }
         ensures mark { self.new.mark ≡ self.old.mark }
-        ensures plays { PlaysAlone (blocking Tr.Conn.Conn) (chosen E.decoded E.encoded self.old.encoding.0) Call.Greet
-            self.old.machine self.new.machine (unit_answer result) }
+        ensures plays { PlaysAlone (blocking Tr.Conn.Conn) (chosen E.decoded E.encoded
+            self.old.encoding.0) Call.Greet self.old.machine self.new.machine (unit_answer result) }
         ensures sound { IsSound Tr.Conn.tells self.new.machine.channel }
     {
         let answer = self
@@ -69,12 +69,12 @@ where
     /// # Errors
     /// Those of a command and its reply: `LineBreak` where CR or LF stands in the user's name or the password.
     pub fn login(&mut self, alloc: Global, user: &str, password: &str) -> FtpResult<()>
-        ensures plays { PlaysCommand (blocking Tr.Conn.Conn) (login_tree (chosen E.decoded E.encoded self.old.encoding.0) user.now password.now)
+        ensures plays { PlaysCommand (blocking Tr.Conn.Conn)
+            (login_tree (chosen E.decoded E.encoded self.old.encoding.0) user.now password.now)
             self.old.mark self.new.mark self.old.machine self.new.machine (unit_answer result) }
-        ensures counts { CountsFaults Tr.Conn.tells self.old.machine self.new.machine (unit_answer result) }
-        ensures encoding { self.new.encoding ≡ self.old.encoding }
-        ensures builder { self.new.builder ≡ self.old.builder }
-        ensures former { self.new.former ≡ self.old.former }
+        ensures counts { CountsFaults Tr.Conn.tells self.old.machine self.new.machine
+            (unit_answer result) }
+        ensures keeps { Keeps self.old self.new }
     {
         self.perform(alloc, BorrowedCall::Login(user, password))
     }
@@ -88,10 +88,9 @@ where
             (unit_tree (chosen E.decoded E.encoded self.old.encoding.0)
             (Command.Cwd path.now) (Codes.Either Status.CommandOk Status.RequestedFileActionOk))
             self.old.mark self.new.mark self.old.machine self.new.machine (unit_answer result) }
-        ensures counts { CountsFaults Tr.Conn.tells self.old.machine self.new.machine (unit_answer result) }
-        ensures encoding { self.new.encoding ≡ self.old.encoding }
-        ensures builder { self.new.builder ≡ self.old.builder }
-        ensures former { self.new.former ≡ self.old.former }
+        ensures counts { CountsFaults Tr.Conn.tells self.old.machine self.new.machine
+            (unit_answer result) }
+        ensures keeps { Keeps self.old self.new }
     {
         self.perform(alloc, BorrowedCall::Cwd(path))
     }
@@ -105,10 +104,9 @@ where
             (unit_tree (chosen E.decoded E.encoded self.old.encoding.0)
             Command.Cdup (Codes.Either Status.CommandOk Status.RequestedFileActionOk))
             self.old.mark self.new.mark self.old.machine self.new.machine (unit_answer result) }
-        ensures counts { CountsFaults Tr.Conn.tells self.old.machine self.new.machine (unit_answer result) }
-        ensures encoding { self.new.encoding ≡ self.old.encoding }
-        ensures builder { self.new.builder ≡ self.old.builder }
-        ensures former { self.new.former ≡ self.old.former }
+        ensures counts { CountsFaults Tr.Conn.tells self.old.machine self.new.machine
+            (unit_answer result) }
+        ensures keeps { Keeps self.old self.new }
     {
         self.perform(alloc, BorrowedCall::Cdup)
     }
@@ -122,10 +120,9 @@ where
             (unit_tree (chosen E.decoded E.encoded self.old.encoding.0)
             Command.Noop (Codes.One Status.CommandOk))
             self.old.mark self.new.mark self.old.machine self.new.machine (unit_answer result) }
-        ensures counts { CountsFaults Tr.Conn.tells self.old.machine self.new.machine (unit_answer result) }
-        ensures encoding { self.new.encoding ≡ self.old.encoding }
-        ensures builder { self.new.builder ≡ self.old.builder }
-        ensures former { self.new.former ≡ self.old.former }
+        ensures counts { CountsFaults Tr.Conn.tells self.old.machine self.new.machine
+            (unit_answer result) }
+        ensures keeps { Keeps self.old self.new }
     {
         self.perform(alloc, BorrowedCall::Noop)
     }
@@ -138,12 +135,12 @@ where
     /// Those of a command and its reply: `UnexpectedResponse` with a 421 that is read, or with the eighth other reply; the
     /// session goes on. Beside a live transfer `DataConnectionAlreadyOpen`, and nothing is sent or read.
     pub fn resync(&mut self, alloc: Global) -> FtpResult<()>
-        ensures plays { PlaysSeen (blocking Tr.Conn.Conn) (chosen E.decoded E.encoded self.old.encoding.0) Call.Resync
-            self.old.mark self.new.mark self.old.machine self.new.machine (unit_answer result) }
-        ensures counts { CountsFaults Tr.Conn.tells self.old.machine self.new.machine (unit_answer result) }
-        ensures encoding { self.new.encoding ≡ self.old.encoding }
-        ensures builder { self.new.builder ≡ self.old.builder }
-        ensures former { self.new.former ≡ self.old.former }
+        ensures plays { PlaysSeen (blocking Tr.Conn.Conn) (chosen E.decoded E.encoded
+            self.old.encoding.0) Call.Resync self.old.mark self.new.mark self.old.machine
+            self.new.machine (unit_answer result) }
+        ensures counts { CountsFaults Tr.Conn.tells self.old.machine self.new.machine
+            (unit_answer result) }
+        ensures keeps { Keeps self.old self.new }
     {
         self.perform(alloc, BorrowedCall::Resync)
     }
@@ -157,10 +154,9 @@ where
             (unit_tree (chosen E.decoded E.encoded self.old.encoding.0)
             (Command.Eprt address) (Codes.One Status.CommandOk))
             self.old.mark self.new.mark self.old.machine self.new.machine (unit_answer result) }
-        ensures counts { CountsFaults Tr.Conn.tells self.old.machine self.new.machine (unit_answer result) }
-        ensures encoding { self.new.encoding ≡ self.old.encoding }
-        ensures builder { self.new.builder ≡ self.old.builder }
-        ensures former { self.new.former ≡ self.old.former }
+        ensures counts { CountsFaults Tr.Conn.tells self.old.machine self.new.machine
+            (unit_answer result) }
+        ensures keeps { Keeps self.old self.new }
     {
         self.perform(alloc, BorrowedCall::Eprt(address))
     }
@@ -172,12 +168,12 @@ where
     pub fn opts(&mut self, alloc: Global, option: &str, value: Option<&str>) -> FtpResult<()>
         ensures plays { PlaysCommand (blocking Tr.Conn.Conn)
             (unit_tree (chosen E.decoded E.encoded self.old.encoding.0)
-            (Command.Opts option.now (option_map (λ text. text.now) value.entry)) (Codes.One Status.CommandOk))
-            self.old.mark self.new.mark self.old.machine self.new.machine (unit_answer result) }
-        ensures counts { CountsFaults Tr.Conn.tells self.old.machine self.new.machine (unit_answer result) }
-        ensures encoding { self.new.encoding ≡ self.old.encoding }
-        ensures builder { self.new.builder ≡ self.old.builder }
-        ensures former { self.new.former ≡ self.old.former }
+            (Command.Opts option.now (option_map (λ text. text.now) value.entry))
+            (Codes.One Status.CommandOk)) self.old.mark self.new.mark self.old.machine
+            self.new.machine (unit_answer result) }
+        ensures counts { CountsFaults Tr.Conn.tells self.old.machine self.new.machine
+            (unit_answer result) }
+        ensures keeps { Keeps self.old self.new }
     {
         self.perform(alloc, BorrowedCall::Opts(option, value))
     }
@@ -191,10 +187,9 @@ where
             (reply_tree (chosen E.decoded E.encoded self.old.encoding.0)
             (Command.Site command.now) (Codes.One Status.CommandOk))
             self.old.mark self.new.mark self.old.machine self.new.machine (reply_answer result) }
-        ensures counts { CountsFaults Tr.Conn.tells self.old.machine self.new.machine (reply_answer result) }
-        ensures encoding { self.new.encoding ≡ self.old.encoding }
-        ensures builder { self.new.builder ≡ self.old.builder }
-        ensures former { self.new.former ≡ self.old.former }
+        ensures counts { CountsFaults Tr.Conn.tells self.old.machine self.new.machine
+            (reply_answer result) }
+        ensures keeps { Keeps self.old self.new }
     {
         self.perform_for_reply(alloc, BorrowedCall::Site(command))
     }
@@ -204,12 +199,12 @@ where
     /// # Errors
     /// Those of a command and its reply.
     pub fn transfer_type(&mut self, alloc: Global, kind: FileType) -> FtpResult<()>
-        ensures plays { PlaysCommand (blocking Tr.Conn.Conn) (type_tree (chosen E.decoded E.encoded self.old.encoding.0) kind)
-            self.old.mark self.new.mark self.old.machine self.new.machine (unit_answer result) }
-        ensures counts { CountsFaults Tr.Conn.tells self.old.machine self.new.machine (unit_answer result) }
-        ensures encoding { self.new.encoding ≡ self.old.encoding }
-        ensures builder { self.new.builder ≡ self.old.builder }
-        ensures former { self.new.former ≡ self.old.former }
+        ensures plays { PlaysCommand (blocking Tr.Conn.Conn)
+            (type_tree (chosen E.decoded E.encoded self.old.encoding.0) kind) self.old.mark
+            self.new.mark self.old.machine self.new.machine (unit_answer result) }
+        ensures counts { CountsFaults Tr.Conn.tells self.old.machine self.new.machine
+            (unit_answer result) }
+        ensures keeps { Keeps self.old self.new }
     {
         self.perform(alloc, BorrowedCall::TransferType(&kind))
     }
@@ -223,10 +218,9 @@ where
             (unit_tree (chosen E.decoded E.encoded self.old.encoding.0)
             (Command.Mkd path.now) (Codes.Either Status.PathCreated Status.CommandOk))
             self.old.mark self.new.mark self.old.machine self.new.machine (unit_answer result) }
-        ensures counts { CountsFaults Tr.Conn.tells self.old.machine self.new.machine (unit_answer result) }
-        ensures encoding { self.new.encoding ≡ self.old.encoding }
-        ensures builder { self.new.builder ≡ self.old.builder }
-        ensures former { self.new.former ≡ self.old.former }
+        ensures counts { CountsFaults Tr.Conn.tells self.old.machine self.new.machine
+            (unit_answer result) }
+        ensures keeps { Keeps self.old self.new }
     {
         self.perform(alloc, BorrowedCall::Mkdir(path))
     }
@@ -240,10 +234,9 @@ where
             (unit_tree (chosen E.decoded E.encoded self.old.encoding.0)
             (Command.Rmd path.now) (Codes.Either Status.RequestedFileActionOk Status.CommandOk))
             self.old.mark self.new.mark self.old.machine self.new.machine (unit_answer result) }
-        ensures counts { CountsFaults Tr.Conn.tells self.old.machine self.new.machine (unit_answer result) }
-        ensures encoding { self.new.encoding ≡ self.old.encoding }
-        ensures builder { self.new.builder ≡ self.old.builder }
-        ensures former { self.new.former ≡ self.old.former }
+        ensures counts { CountsFaults Tr.Conn.tells self.old.machine self.new.machine
+            (unit_answer result) }
+        ensures keeps { Keeps self.old self.new }
     {
         self.perform(alloc, BorrowedCall::Rmdir(path))
     }
@@ -257,10 +250,9 @@ where
             (unit_tree (chosen E.decoded E.encoded self.old.encoding.0)
             (Command.Dele path.now) (Codes.Either Status.RequestedFileActionOk Status.CommandOk))
             self.old.mark self.new.mark self.old.machine self.new.machine (unit_answer result) }
-        ensures counts { CountsFaults Tr.Conn.tells self.old.machine self.new.machine (unit_answer result) }
-        ensures encoding { self.new.encoding ≡ self.old.encoding }
-        ensures builder { self.new.builder ≡ self.old.builder }
-        ensures former { self.new.former ≡ self.old.former }
+        ensures counts { CountsFaults Tr.Conn.tells self.old.machine self.new.machine
+            (unit_answer result) }
+        ensures keeps { Keeps self.old self.new }
     {
         self.perform(alloc, BorrowedCall::Rm(path))
     }
@@ -270,12 +262,12 @@ where
     /// # Errors
     /// Those of a command and its reply.
     pub fn rename(&mut self, alloc: Global, from: &str, to: &str) -> FtpResult<()>
-        ensures plays { PlaysCommand (blocking Tr.Conn.Conn) (rename_tree (chosen E.decoded E.encoded self.old.encoding.0) from.now to.now)
+        ensures plays { PlaysCommand (blocking Tr.Conn.Conn)
+            (rename_tree (chosen E.decoded E.encoded self.old.encoding.0) from.now to.now)
             self.old.mark self.new.mark self.old.machine self.new.machine (unit_answer result) }
-        ensures counts { CountsFaults Tr.Conn.tells self.old.machine self.new.machine (unit_answer result) }
-        ensures encoding { self.new.encoding ≡ self.old.encoding }
-        ensures builder { self.new.builder ≡ self.old.builder }
-        ensures former { self.new.former ≡ self.old.former }
+        ensures counts { CountsFaults Tr.Conn.tells self.old.machine self.new.machine
+            (unit_answer result) }
+        ensures keeps { Keeps self.old self.new }
     {
         self.perform(alloc, BorrowedCall::Rename(from, to))
     }
@@ -289,10 +281,9 @@ where
             (unit_tree (chosen E.decoded E.encoded self.old.encoding.0)
             Command.Quit (Codes.One Status.Closing))
             self.old.mark self.new.mark self.old.machine self.new.machine (unit_answer result) }
-        ensures counts { CountsFaults Tr.Conn.tells self.old.machine self.new.machine (unit_answer result) }
-        ensures encoding { self.new.encoding ≡ self.old.encoding }
-        ensures builder { self.new.builder ≡ self.old.builder }
-        ensures former { self.new.former ≡ self.old.former }
+        ensures counts { CountsFaults Tr.Conn.tells self.old.machine self.new.machine
+            (unit_answer result) }
+        ensures keeps { Keeps self.old self.new }
     {
         self.perform(alloc, BorrowedCall::Quit)
     }
@@ -311,10 +302,9 @@ where
             (reply_tree (chosen E.decoded E.encoded self.old.encoding.0)
             (Command.Custom line.now) (Codes.Given expected.now))
             self.old.mark self.new.mark self.old.machine self.new.machine (reply_answer result) }
-        ensures counts { CountsFaults Tr.Conn.tells self.old.machine self.new.machine (reply_answer result) }
-        ensures encoding { self.new.encoding ≡ self.old.encoding }
-        ensures builder { self.new.builder ≡ self.old.builder }
-        ensures former { self.new.former ≡ self.old.former }
+        ensures counts { CountsFaults Tr.Conn.tells self.old.machine self.new.machine
+            (reply_answer result) }
+        ensures keeps { Keeps self.old self.new }
     {
         self.perform_for_reply(alloc, BorrowedCall::CustomCommand(line, expected))
     }
@@ -326,10 +316,9 @@ where
     pub fn read_response(&mut self, alloc: Global, expected: Status) -> FtpResult<Response>
         ensures plays { PlaysRead (blocking Tr.Conn.Conn) (read_tree (expected ∷ []))
             self.old.mark self.new.mark self.old.machine self.new.machine (reply_answer result) }
-        ensures counts { CountsFaults Tr.Conn.tells self.old.machine self.new.machine (reply_answer result) }
-        ensures encoding { self.new.encoding ≡ self.old.encoding }
-        ensures builder { self.new.builder ≡ self.old.builder }
-        ensures former { self.new.former ≡ self.old.former }
+        ensures counts { CountsFaults Tr.Conn.tells self.old.machine self.new.machine
+            (reply_answer result) }
+        ensures keeps { Keeps self.old self.new }
     {
         self.perform_for_reply(alloc, BorrowedCall::ReadResponse(expected))
     }
@@ -342,10 +331,9 @@ where
     pub fn read_response_in(&mut self, alloc: Global, expected: &[Status]) -> FtpResult<Response>
         ensures plays { PlaysRead (blocking Tr.Conn.Conn) (read_tree expected.now)
             self.old.mark self.new.mark self.old.machine self.new.machine (reply_answer result) }
-        ensures counts { CountsFaults Tr.Conn.tells self.old.machine self.new.machine (reply_answer result) }
-        ensures encoding { self.new.encoding ≡ self.old.encoding }
-        ensures builder { self.new.builder ≡ self.old.builder }
-        ensures former { self.new.former ≡ self.old.former }
+        ensures counts { CountsFaults Tr.Conn.tells self.old.machine self.new.machine
+            (reply_answer result) }
+        ensures keeps { Keeps self.old self.new }
     {
         self.perform_for_reply(alloc, BorrowedCall::ReadResponseIn(expected))
     }
@@ -357,10 +345,9 @@ where
     pub fn resume_transfer(&mut self, alloc: Global, offset: u64) -> FtpResult<()>
         ensures plays { PlaysCommand (blocking Tr.Conn.Conn) (resume_tree offset)
             self.old.mark self.new.mark self.old.machine self.new.machine (unit_answer result) }
-        ensures counts { CountsFaults Tr.Conn.tells self.old.machine self.new.machine (unit_answer result) }
-        ensures encoding { self.new.encoding ≡ self.old.encoding }
-        ensures builder { self.new.builder ≡ self.old.builder }
-        ensures former { self.new.former ≡ self.old.former }
+        ensures counts { CountsFaults Tr.Conn.tells self.old.machine self.new.machine
+            (unit_answer result) }
+        ensures keeps { Keeps self.old self.new }
     {
         self.perform(alloc, BorrowedCall::ResumeTransfer(offset))
     }
@@ -368,12 +355,11 @@ where
     /// Makes a call.
     pub(super) fn call(&mut self, alloc: Global, call: &Call) -> Answer
         requires { IsPlain call.now }
-        ensures encoding { self.new.encoding ≡ self.old.encoding }
-        ensures builder { self.new.builder ≡ self.old.builder }
-        ensures former { self.new.former ≡ self.old.former }
+        ensures keeps { Keeps self.old self.new }
         ensures answers { MayAnswer call.now result }
-        ensures plays { PlaysSeen (blocking Tr.Conn.Conn) (chosen E.decoded E.encoded self.old.encoding.0)
-            call.now self.old.mark self.new.mark self.old.machine self.new.machine result }
+        ensures plays { PlaysSeen (blocking Tr.Conn.Conn) (chosen E.decoded E.encoded
+            self.old.encoding.0) call.now self.old.mark self.new.mark self.old.machine
+            self.new.machine result }
         ensures counts { CountsFaults Tr.Conn.tells self.old.machine self.new.machine result }
     {
         look(&mut self.machine, &mut self.mark);
@@ -384,14 +370,15 @@ where
     /// Makes a call that returns nothing, with arguments of its own. Where memory runs out for them nothing happens.
     fn perform(&mut self, alloc: Global, call: BorrowedCall<'_>) -> FtpResult<()>
         requires { GivesNothing (call_of call) }
-        ensures encoding { self.new.encoding ≡ self.old.encoding }
-        ensures builder { self.new.builder ≡ self.old.builder }
-        ensures former { self.new.former ≡ self.old.former }
-        ensures plays { PlaysSeen (blocking Tr.Conn.Conn) (chosen E.decoded E.encoded self.old.encoding.0) (call_of call.entry)
-            self.old.mark self.new.mark self.old.machine self.new.machine (unit_answer result) }
-        ensures row { PlaysRow (own_row (call_of call.entry) true) (blocking Tr.Conn.Conn) (chosen E.decoded E.encoded self.old.encoding.0)
-            self.old.mark self.new.mark self.old.machine self.new.machine (unit_answer result) }
-        ensures counts { CountsFaults Tr.Conn.tells self.old.machine self.new.machine (unit_answer result) }
+        ensures keeps { Keeps self.old self.new }
+        ensures plays { PlaysSeen (blocking Tr.Conn.Conn) (chosen E.decoded E.encoded
+            self.old.encoding.0) (call_of call.entry) self.old.mark self.new.mark self.old.machine
+            self.new.machine (unit_answer result) }
+        ensures row { PlaysRow (own_row (call_of call.entry) true) (blocking Tr.Conn.Conn)
+            (chosen E.decoded E.encoded self.old.encoding.0) self.old.mark self.new.mark
+            self.old.machine self.new.machine (unit_answer result) }
+        ensures counts { CountsFaults Tr.Conn.tells self.old.machine self.new.machine
+            (unit_answer result) }
     {
         match call.owned(alloc) {
             Ok(call) => {
@@ -406,14 +393,15 @@ where
     /// Makes a call that returns its reply, as `perform` does.
     fn perform_for_reply(&mut self, alloc: Global, call: BorrowedCall<'_>) -> FtpResult<Response>
         requires { GivesReply (call_of call) }
-        ensures encoding { self.new.encoding ≡ self.old.encoding }
-        ensures builder { self.new.builder ≡ self.old.builder }
-        ensures former { self.new.former ≡ self.old.former }
-        ensures plays { PlaysSeen (blocking Tr.Conn.Conn) (chosen E.decoded E.encoded self.old.encoding.0) (call_of call.entry)
-            self.old.mark self.new.mark self.old.machine self.new.machine (reply_answer result) }
-        ensures row { PlaysRow (own_row (call_of call.entry) true) (blocking Tr.Conn.Conn) (chosen E.decoded E.encoded self.old.encoding.0)
-            self.old.mark self.new.mark self.old.machine self.new.machine (reply_answer result) }
-        ensures counts { CountsFaults Tr.Conn.tells self.old.machine self.new.machine (reply_answer result) }
+        ensures keeps { Keeps self.old self.new }
+        ensures plays { PlaysSeen (blocking Tr.Conn.Conn) (chosen E.decoded E.encoded
+            self.old.encoding.0) (call_of call.entry) self.old.mark self.new.mark self.old.machine
+            self.new.machine (reply_answer result) }
+        ensures row { PlaysRow (own_row (call_of call.entry) true) (blocking Tr.Conn.Conn)
+            (chosen E.decoded E.encoded self.old.encoding.0) self.old.mark self.new.mark
+            self.old.machine self.new.machine (reply_answer result) }
+        ensures counts { CountsFaults Tr.Conn.tells self.old.machine self.new.machine
+            (reply_answer result) }
     {
         match call.owned(alloc) {
             Ok(call) => {
@@ -427,9 +415,7 @@ where
 
     /// A call isn't made whose arguments found no memory: the session looks, and returns why.
     pub(super) fn withheld_call(&mut self) -> FtpError
-        ensures encoding { self.new.encoding ≡ self.old.encoding }
-        ensures builder { self.new.builder ≡ self.old.builder }
-        ensures former { self.new.former ≡ self.old.former }
+        ensures keeps { Keeps self.old self.new }
         ensures plays { (call : Called) → IsPlain call →
             PlaysSeen (blocking Tr.Conn.Conn) (chosen E.decoded E.encoded self.old.encoding.0) call
             self.old.mark self.new.mark self.old.machine self.new.machine (Fault result) }

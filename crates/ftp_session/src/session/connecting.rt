@@ -44,10 +44,17 @@ where
         ensures mark { IfOk result (λ session. session.mark ≡ None) }
         ensures nowhere { length addresses.now ≡ 0 →
             result ≡ Err (FtpError.ConnectionError faults.NoAddress) }
-        ensures connects { MatchResult result
-            (λ session. ConnectsBy (blocking Tr.Conn.Conn) (chosen E.decoded E.encoded None) ReplyRule.Strict Tr.refuses (connects_to None addresses.now) faults.NoAddress (Tr.ready transport) (Tr.closed transport) (Tr.asked transport) session.machine (Ok tt))
-            (λ fault. FailsToConnectBy (blocking Tr.Conn.Conn) (chosen E.decoded E.encoded None) ReplyRule.Strict Tr.refuses (connects_to None addresses.now) faults.NoAddress (Tr.ready transport) (Tr.closed transport) (Tr.asked transport) fault) }
-        ensures counts { IfErr result (λ fault. CountsConnecting (blocking Tr.Conn.Conn) (chosen E.decoded E.encoded None) ReplyRule.Strict Tr.refuses (connects_to None addresses.now) faults.NoAddress (Tr.ready transport) (Tr.closed transport) (Tr.asked transport) fault) }
+        ensures connects { MatchResult result (λ session. ConnectsBy (blocking Tr.Conn.Conn)
+            (chosen E.decoded E.encoded None) ReplyRule.Strict Tr.refuses
+            (connects_to None addresses.now) faults.NoAddress (Tr.ready transport)
+            (Tr.closed transport) (Tr.asked transport) session.machine (Ok tt))
+            (λ fault. FailsToConnectBy (blocking Tr.Conn.Conn) (chosen E.decoded E.encoded None)
+            ReplyRule.Strict Tr.refuses (connects_to None addresses.now) faults.NoAddress
+            (Tr.ready transport) (Tr.closed transport) (Tr.asked transport) fault) }
+        ensures counts { IfErr result (λ fault. CountsConnecting (blocking Tr.Conn.Conn)
+            (chosen E.decoded E.encoded None) ReplyRule.Strict Tr.refuses
+            (connects_to None addresses.now) faults.NoAddress (Tr.ready transport)
+            (Tr.closed transport) (Tr.asked transport) fault) }
     {
         Session::connect_in_turn(
             alloc,
@@ -77,10 +84,17 @@ where
         ensures mark { IfOk result (λ session. session.mark ≡ None) }
         ensures nowhere { length addresses.now ≡ 0 →
             result ≡ Err (FtpError.ConnectionError faults.NoAddress) }
-        ensures connects { MatchResult result
-            (λ session. ConnectsBy (blocking Tr.Conn.Conn) (chosen E.decoded E.encoded None) ReplyRule.Lenient Tr.refuses (connects_to None addresses.now) faults.NoAddress (Tr.ready transport) (Tr.closed transport) (Tr.asked transport) session.machine (Ok tt))
-            (λ fault. FailsToConnectBy (blocking Tr.Conn.Conn) (chosen E.decoded E.encoded None) ReplyRule.Lenient Tr.refuses (connects_to None addresses.now) faults.NoAddress (Tr.ready transport) (Tr.closed transport) (Tr.asked transport) fault) }
-        ensures counts { IfErr result (λ fault. CountsConnecting (blocking Tr.Conn.Conn) (chosen E.decoded E.encoded None) ReplyRule.Lenient Tr.refuses (connects_to None addresses.now) faults.NoAddress (Tr.ready transport) (Tr.closed transport) (Tr.asked transport) fault) }
+        ensures connects { MatchResult result (λ session. ConnectsBy (blocking Tr.Conn.Conn)
+            (chosen E.decoded E.encoded None) ReplyRule.Lenient Tr.refuses
+            (connects_to None addresses.now) faults.NoAddress (Tr.ready transport)
+            (Tr.closed transport) (Tr.asked transport) session.machine (Ok tt))
+            (λ fault. FailsToConnectBy (blocking Tr.Conn.Conn) (chosen E.decoded E.encoded None)
+            ReplyRule.Lenient Tr.refuses (connects_to None addresses.now) faults.NoAddress
+            (Tr.ready transport) (Tr.closed transport) (Tr.asked transport) fault) }
+        ensures counts { IfErr result (λ fault. CountsConnecting (blocking Tr.Conn.Conn)
+            (chosen E.decoded E.encoded None) ReplyRule.Lenient Tr.refuses
+            (connects_to None addresses.now) faults.NoAddress (Tr.ready transport)
+            (Tr.closed transport) (Tr.asked transport) fault) }
     {
         Session::connect_in_turn(
             alloc,
@@ -113,10 +127,17 @@ where
         ensures mark { IfOk result (λ session. session.mark ≡ None) }
         ensures no_time { as_nanos limit ≡ 0 →
             result ≡ Err (FtpError.ConnectionError faults.TimedOut) }
-        ensures connects { MatchResult result
-            (λ session. ConnectsBy (blocking Tr.Conn.Conn) (chosen E.decoded E.encoded None) ReplyRule.Strict Tr.refuses (connects_within limit address) faults.TimedOut (Tr.ready transport) (Tr.closed transport) (Tr.asked transport) session.machine (Ok tt))
-            (λ fault. FailsToConnectBy (blocking Tr.Conn.Conn) (chosen E.decoded E.encoded None) ReplyRule.Strict Tr.refuses (connects_within limit address) faults.TimedOut (Tr.ready transport) (Tr.closed transport) (Tr.asked transport) fault) }
-        ensures counts { IfErr result (λ fault. CountsConnecting (blocking Tr.Conn.Conn) (chosen E.decoded E.encoded None) ReplyRule.Strict Tr.refuses (connects_within limit address) faults.TimedOut (Tr.ready transport) (Tr.closed transport) (Tr.asked transport) fault) }
+        ensures connects { MatchResult result (λ session. ConnectsBy (blocking Tr.Conn.Conn)
+            (chosen E.decoded E.encoded None) ReplyRule.Strict Tr.refuses
+            (connects_within limit address) faults.TimedOut (Tr.ready transport)
+            (Tr.closed transport) (Tr.asked transport) session.machine (Ok tt))
+            (λ fault. FailsToConnectBy (blocking Tr.Conn.Conn) (chosen E.decoded E.encoded None)
+            ReplyRule.Strict Tr.refuses (connects_within limit address) faults.TimedOut
+            (Tr.ready transport) (Tr.closed transport) (Tr.asked transport) fault) }
+        ensures counts { IfErr result (λ fault. CountsConnecting (blocking Tr.Conn.Conn)
+            (chosen E.decoded E.encoded None) ReplyRule.Strict Tr.refuses
+            (connects_within limit address) faults.TimedOut (Tr.ready transport)
+            (Tr.closed transport) (Tr.asked transport) fault) }
     {
         let addresses = [address];
         let count = if limit.is_zero() { 0 } else { 1 };
@@ -149,9 +170,12 @@ where
         ensures mark { IfOk result (λ session. session.mark ≡ None) }
         ensures nowhere { length addresses.now ≡ 0 →
             result ≡ Err (FtpError.ConnectionError fault) }
-        ensures connects { MatchResult result
-            (λ session. ConnectsBy (blocking Tr.Conn.Conn) (chosen E.decoded E.encoded None) rule Tr.refuses (connects_to limit addresses.now) fault (Tr.ready transport) (Tr.closed transport) (Tr.asked transport) session.machine (Ok tt))
-            (λ cause. FailsToConnectBy (blocking Tr.Conn.Conn) (chosen E.decoded E.encoded None) rule Tr.refuses (connects_to limit addresses.now) fault (Tr.ready transport) (Tr.closed transport) (Tr.asked transport) cause) }
+        ensures connects { MatchResult result (λ session. ConnectsBy (blocking Tr.Conn.Conn)
+            (chosen E.decoded E.encoded None) rule Tr.refuses (connects_to limit addresses.now)
+            fault (Tr.ready transport) (Tr.closed transport) (Tr.asked transport) session.machine
+            (Ok tt)) (λ cause. FailsToConnectBy (blocking Tr.Conn.Conn)
+            (chosen E.decoded E.encoded None) rule Tr.refuses (connects_to limit addresses.now)
+            fault (Tr.ready transport) (Tr.closed transport) (Tr.asked transport) cause) }
     {
         let mut tried = Tried { count: 0, fault };
         match poll_connect_in_turn(

@@ -11,6 +11,7 @@ ghost use Rattle.ftp_dialogue.specs.Counted.{CountsFaults, CountsFaultsBeside};
 ghost use Rattle.ftp_session.specs.Handed.{BeginsToSettle, BringsToEnd, EndsOnly, Settles, TakesBack, is_out, left_if, passed_over, with_data};
 ghost use Rattle.ftp_dialogue.specs.Link.{blocking};
 ghost use Rattle.ftp_dialogue.specs.Sound.{is_owed};
+ghost use Rattle.ftp_session.specs.Kept.{Keeps};
 
 use super::client::Session;
 use super::polling::DropsCalls;
@@ -37,12 +38,12 @@ where
     /// `SessionFailed`, whichever transfer it is; where there is no memory for the record of the data connection
     /// `OutOfMemory`; the transfer is left then.
     pub fn finish(&mut self, alloc: Global, transfer: Transfer<Tr::Conn>) -> FtpResult<()>
-        ensures finishes { BringsToEnd (blocking Tr.Conn.Conn) (chosen E.decoded E.encoded self.old.encoding.0) Call.Finish transfer
-            self.old.mark self.new.mark self.old.machine self.new.machine (unit_answer result) }
-        ensures counts { CountsFaultsBeside (blocking Tr.Conn.Conn) (with_data (Some transfer.told) self.old.machine) self.new.machine (unit_answer result) }
-        ensures encoding { self.new.encoding ≡ self.old.encoding }
-        ensures builder { self.new.builder ≡ self.old.builder }
-        ensures former { self.new.former ≡ self.old.former }
+        ensures finishes { BringsToEnd (blocking Tr.Conn.Conn)
+            (chosen E.decoded E.encoded self.old.encoding.0) Call.Finish transfer self.old.mark
+            self.new.mark self.old.machine self.new.machine (unit_answer result) }
+        ensures counts { CountsFaultsBeside (blocking Tr.Conn.Conn)
+            (with_data (Some transfer.told) self.old.machine) self.new.machine (unit_answer result) }
+        ensures keeps { Keeps self.old self.new }
     {
         match take_back(self, transfer) {
             Ok(()) => ended(
@@ -62,12 +63,12 @@ where
     /// nothing of the session changes. On a session that has failed `SessionFailed`; where there is no memory for the
     /// record of the data connection `OutOfMemory`; the transfer is left then.
     pub fn abort(&mut self, alloc: Global, transfer: Transfer<Tr::Conn>) -> FtpResult<()>
-        ensures aborts { BringsToEnd (blocking Tr.Conn.Conn) (chosen E.decoded E.encoded self.old.encoding.0) Call.Abort transfer
-            self.old.mark self.new.mark self.old.machine self.new.machine (unit_answer result) }
-        ensures counts { CountsFaultsBeside (blocking Tr.Conn.Conn) (with_data (Some transfer.told) self.old.machine) self.new.machine (unit_answer result) }
-        ensures encoding { self.new.encoding ≡ self.old.encoding }
-        ensures builder { self.new.builder ≡ self.old.builder }
-        ensures former { self.new.former ≡ self.old.former }
+        ensures aborts { BringsToEnd (blocking Tr.Conn.Conn)
+            (chosen E.decoded E.encoded self.old.encoding.0) Call.Abort transfer self.old.mark
+            self.new.mark self.old.machine self.new.machine (unit_answer result) }
+        ensures counts { CountsFaultsBeside (blocking Tr.Conn.Conn)
+            (with_data (Some transfer.told) self.old.machine) self.new.machine (unit_answer result) }
+        ensures keeps { Keeps self.old self.new }
     {
         match take_back(self, transfer) {
             Ok(()) => ended(
@@ -85,14 +86,13 @@ where
     /// # Errors
     /// Those of a read of one reply, but for `UnexpectedResponse`; `SessionFailed` on a session that has failed.
     pub fn settle(&mut self, alloc: Global, left: &mut Left) -> FtpResult<()>
-        ensures settles { Settles (blocking Tr.Conn.Conn) (chosen E.decoded E.encoded self.old.encoding.0) left.old
-            self.old.machine self.new.machine (unit_answer result) }
-        ensures counts { CountsFaults Tr.Conn.tells self.old.machine self.new.machine (unit_answer result) }
+        ensures settles { Settles (blocking Tr.Conn.Conn) (chosen E.decoded E.encoded
+            self.old.encoding.0) left.old self.old.machine self.new.machine (unit_answer result) }
+        ensures counts { CountsFaults Tr.Conn.tells self.old.machine self.new.machine
+            (unit_answer result) }
         ensures looks { left.new ≡ loaded true left.old }
         ensures mark { self.new.mark ≡ self.old.mark }
-        ensures encoding { self.new.encoding ≡ self.old.encoding }
-        ensures builder { self.new.builder ≡ self.old.builder }
-        ensures former { self.new.former ≡ self.old.former }
+        ensures keeps { Keeps self.old self.new }
     {
         let owed = match begin_settle(self, left) {
             Ok(owed) => owed,
@@ -115,10 +115,9 @@ pub fn take_back<Tr: Network, K: Drop, E: Encoding, B: Drop>(
     session: &mut Session<Tr, K, E, B>,
     transfer: Transfer<Tr::Conn>,
 ) -> FtpResult<()>
-    ensures takes { TakesBack transfer session.old.mark session.new.mark session.old.machine session.new.machine result }
-    ensures encoding { session.new.encoding ≡ session.old.encoding }
-    ensures builder { session.new.builder ≡ session.old.builder }
-    ensures former { session.new.former ≡ session.old.former }
+    ensures takes { TakesBack transfer session.old.mark session.new.mark session.old.machine
+        session.new.machine result }
+    ensures keeps { Keeps session.old session.new }
 {
     if !is_out(&session.machine, &session.mark, transfer.number()) {
         return Err(passed_over(&session.machine));
@@ -144,9 +143,7 @@ pub fn begin_settle<Tr: Network, K: Drop, E: Encoding, B: Drop>(
     ensures begins { BeginsToSettle left.old session.old.machine session.new.machine result }
     ensures looks { left.new ≡ loaded true left.old }
     ensures mark { session.new.mark ≡ session.old.mark }
-    ensures encoding { session.new.encoding ≡ session.old.encoding }
-    ensures builder { session.new.builder ≡ session.old.builder }
-    ensures former { session.new.former ≡ session.old.former }
+    ensures keeps { Keeps session.old session.new }
 {
     left.look_after();
     if has_failed(&session.machine) {

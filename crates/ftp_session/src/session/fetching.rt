@@ -16,6 +16,7 @@ ghost use Rattle.ftp_session.specs.Calls.{bytes_answer, lines_answer};
 ghost use Rattle.ftp_session.specs.Fetched.{IsFetched};
 ghost use Rattle.ftp_calls.specs.Kinds.{IsOpening};
 ghost use Rattle.ftp_session.specs.Handed.{PlaysSeen};
+ghost use Rattle.ftp_session.specs.Kept.{Keeps};
 
 use super::client::Session;
 use super::looking::look;
@@ -42,12 +43,13 @@ where
     pub fn retr_as_buffer<R>(&mut self, alloc: Global, rt: &R, path: &str) -> FtpResult<Vec<u8>>
     where
         Tr: Transport<R>,
-        ensures fetches { PlaysSeen (asking (built_by B.answers self.old.builder) ⊥ (blocking Tr.Conn.Conn)) (chosen E.decoded E.encoded self.old.encoding.0) (Call.Retr path.now)
-            self.old.mark self.new.mark self.old.machine self.new.machine (bytes_answer result) }
-        ensures counts { CountsFaultsBeside (asking (built_by B.answers self.old.builder) ⊥ (blocking Tr.Conn.Conn)) self.old.machine self.new.machine (bytes_answer result) }
-        ensures encoding { self.new.encoding ≡ self.old.encoding }
-        ensures builder { self.new.builder ≡ self.old.builder }
-        ensures former { self.new.former ≡ self.old.former }
+        ensures fetches { PlaysSeen (asking (built_by B.answers self.old.builder) ⊥
+            (blocking Tr.Conn.Conn)) (chosen E.decoded E.encoded self.old.encoding.0)
+            (Call.Retr path.now) self.old.mark self.new.mark self.old.machine self.new.machine
+            (bytes_answer result) }
+        ensures counts { CountsFaultsBeside (asking (built_by B.answers self.old.builder) ⊥
+            (blocking Tr.Conn.Conn)) self.old.machine self.new.machine (bytes_answer result) }
+        ensures keeps { Keeps self.old self.new }
     {
         bytes(self.fetch(alloc, rt, BorrowedCall::Retr(path)))
     }
@@ -63,12 +65,13 @@ where
     pub fn list<R>(&mut self, alloc: Global, rt: &R, path: Option<&str>) -> FtpResult<Vec<String>>
     where
         Tr: Transport<R>,
-        ensures fetches { PlaysSeen (asking (built_by B.answers self.old.builder) ⊥ (blocking Tr.Conn.Conn)) (chosen E.decoded E.encoded self.old.encoding.0) (Call.List (option_map (λ text. text.now) path.entry))
-            self.old.mark self.new.mark self.old.machine self.new.machine (lines_answer result) }
-        ensures counts { CountsFaultsBeside (asking (built_by B.answers self.old.builder) ⊥ (blocking Tr.Conn.Conn)) self.old.machine self.new.machine (lines_answer result) }
-        ensures encoding { self.new.encoding ≡ self.old.encoding }
-        ensures builder { self.new.builder ≡ self.old.builder }
-        ensures former { self.new.former ≡ self.old.former }
+        ensures fetches { PlaysSeen (asking (built_by B.answers self.old.builder) ⊥
+            (blocking Tr.Conn.Conn)) (chosen E.decoded E.encoded self.old.encoding.0)
+            (Call.List (option_map (λ text. text.now) path.entry)) self.old.mark self.new.mark
+            self.old.machine self.new.machine (lines_answer result) }
+        ensures counts { CountsFaultsBeside (asking (built_by B.answers self.old.builder) ⊥
+            (blocking Tr.Conn.Conn)) self.old.machine self.new.machine (lines_answer result) }
+        ensures keeps { Keeps self.old self.new }
     {
         lines(self.fetch(alloc, rt, BorrowedCall::List(path)))
     }
@@ -80,12 +83,13 @@ where
     pub fn nlst<R>(&mut self, alloc: Global, rt: &R, path: Option<&str>) -> FtpResult<Vec<String>>
     where
         Tr: Transport<R>,
-        ensures fetches { PlaysSeen (asking (built_by B.answers self.old.builder) ⊥ (blocking Tr.Conn.Conn)) (chosen E.decoded E.encoded self.old.encoding.0) (Call.Nlst (option_map (λ text. text.now) path.entry))
-            self.old.mark self.new.mark self.old.machine self.new.machine (lines_answer result) }
-        ensures counts { CountsFaultsBeside (asking (built_by B.answers self.old.builder) ⊥ (blocking Tr.Conn.Conn)) self.old.machine self.new.machine (lines_answer result) }
-        ensures encoding { self.new.encoding ≡ self.old.encoding }
-        ensures builder { self.new.builder ≡ self.old.builder }
-        ensures former { self.new.former ≡ self.old.former }
+        ensures fetches { PlaysSeen (asking (built_by B.answers self.old.builder) ⊥
+            (blocking Tr.Conn.Conn)) (chosen E.decoded E.encoded self.old.encoding.0)
+            (Call.Nlst (option_map (λ text. text.now) path.entry)) self.old.mark self.new.mark
+            self.old.machine self.new.machine (lines_answer result) }
+        ensures counts { CountsFaultsBeside (asking (built_by B.answers self.old.builder) ⊥
+            (blocking Tr.Conn.Conn)) self.old.machine self.new.machine (lines_answer result) }
+        ensures keeps { Keeps self.old self.new }
     {
         lines(self.fetch(alloc, rt, BorrowedCall::Nlst(path)))
     }
@@ -97,12 +101,13 @@ where
     pub fn mlsd<R>(&mut self, alloc: Global, rt: &R, path: Option<&str>) -> FtpResult<Vec<String>>
     where
         Tr: Transport<R>,
-        ensures fetches { PlaysSeen (asking (built_by B.answers self.old.builder) ⊥ (blocking Tr.Conn.Conn)) (chosen E.decoded E.encoded self.old.encoding.0) (Call.Mlsd (option_map (λ text. text.now) path.entry))
-            self.old.mark self.new.mark self.old.machine self.new.machine (lines_answer result) }
-        ensures counts { CountsFaultsBeside (asking (built_by B.answers self.old.builder) ⊥ (blocking Tr.Conn.Conn)) self.old.machine self.new.machine (lines_answer result) }
-        ensures encoding { self.new.encoding ≡ self.old.encoding }
-        ensures builder { self.new.builder ≡ self.old.builder }
-        ensures former { self.new.former ≡ self.old.former }
+        ensures fetches { PlaysSeen (asking (built_by B.answers self.old.builder) ⊥
+            (blocking Tr.Conn.Conn)) (chosen E.decoded E.encoded self.old.encoding.0)
+            (Call.Mlsd (option_map (λ text. text.now) path.entry)) self.old.mark self.new.mark
+            self.old.machine self.new.machine (lines_answer result) }
+        ensures counts { CountsFaultsBeside (asking (built_by B.answers self.old.builder) ⊥
+            (blocking Tr.Conn.Conn)) self.old.machine self.new.machine (lines_answer result) }
+        ensures keeps { Keeps self.old self.new }
     {
         lines(self.fetch(alloc, rt, BorrowedCall::Mlsd(path)))
     }
@@ -113,13 +118,14 @@ where
     where
         Tr: Transport<R>,
         requires { IsOpening (call_of call) }
-        ensures plays { PlaysSeen (asking (built_by B.answers self.old.builder) ⊥ (blocking Tr.Conn.Conn)) (chosen E.decoded E.encoded self.old.encoding.0) (call_of call.entry)
-            self.old.mark self.new.mark self.old.machine self.new.machine result }
+        ensures plays { PlaysSeen (asking (built_by B.answers self.old.builder) ⊥
+            (blocking Tr.Conn.Conn)) (chosen E.decoded E.encoded self.old.encoding.0)
+            (call_of call.entry) self.old.mark self.new.mark self.old.machine self.new.machine
+            result }
         ensures fetched { (form : Fetch) (command : Said) →
-            ((first : Bool) → own_row (call_of call.entry) first ≡ fetch_row command form) → IsFetched form result }
-        ensures encoding { self.new.encoding ≡ self.old.encoding }
-        ensures builder { self.new.builder ≡ self.old.builder }
-        ensures former { self.new.former ≡ self.old.former }
+            ((first : Bool) → own_row (call_of call.entry) first ≡ fetch_row command form) →
+            IsFetched form result }
+        ensures keeps { Keeps self.old self.new }
     {
         look(&mut self.machine, &mut self.mark);
         match call.owned(alloc) {

@@ -8,6 +8,7 @@ ghost use Rattle.ftp_dialogue.specs.Coding.{chosen};
 ghost use Rattle.ftp_dialogue.specs.Link.{asking, blocking, built_by};
 ghost use Rattle.ftp_session.specs.Counting.{CountsDownload, CountsSaving, CountsUpload};
 ghost use Rattle.ftp_session.specs.Files.{Abandons, FinishesWhole, Puts, Retrieves, Stores, failed_if, first_of, lacks_memory, unless_failed, Receives, WritesTo};
+ghost use Rattle.ftp_session.specs.Kept.{Keeps, KeepsChoices};
 
 use super::client::Session;
 use super::ending::take_back;
@@ -63,12 +64,17 @@ where
     ) -> FtpResult<u64>
     where
         Tr: Transport<R>,
-        ensures puts { Puts (asking (built_by B.answers self.old.builder) ⊥ (blocking Tr.Conn.Conn)) (blocking Tr.Conn.Conn) (chosen E.decoded E.encoded self.old.encoding.0) (Call.PutWithStream path.now)
-            (S.remaining source.old) (S.remaining source.new) self.old.mark self.new.mark self.old.former self.new.former self.old.machine self.new.machine result }
-        ensures counts { IfErr result (λ fault. CountsUpload (asking (built_by B.answers self.old.builder) ⊥ (blocking Tr.Conn.Conn)) (blocking Tr.Conn.Conn) (chosen E.decoded E.encoded self.old.encoding.0) (Call.PutWithStream path.now)
-            (S.remaining source.old) (S.remaining source.new) self.old.mark self.old.former self.new.former self.old.machine self.new.machine fault) }
-        ensures encoding { self.new.encoding ≡ self.old.encoding }
-        ensures builder { self.new.builder ≡ self.old.builder }
+        ensures puts { Puts (asking (built_by B.answers self.old.builder) ⊥ (blocking Tr.Conn.Conn))
+            (blocking Tr.Conn.Conn) (chosen E.decoded E.encoded self.old.encoding.0)
+            (Call.PutWithStream path.now) (S.remaining source.old) (S.remaining source.new)
+            self.old.mark self.new.mark self.old.former self.new.former self.old.machine
+            self.new.machine result }
+        ensures counts { IfErr result (λ fault. CountsUpload
+            (asking (built_by B.answers self.old.builder) ⊥ (blocking Tr.Conn.Conn))
+            (blocking Tr.Conn.Conn) (chosen E.decoded E.encoded self.old.encoding.0)
+            (Call.PutWithStream path.now) (S.remaining source.old) (S.remaining source.new)
+            self.old.mark self.old.former self.new.former self.old.machine self.new.machine fault) }
+        ensures keeps { KeepsChoices self.old self.new }
     {
         self.put_file_with(alloc, rt, path, source, &mut NoProgress)
     }
@@ -87,12 +93,17 @@ where
     ) -> FtpResult<u64>
     where
         Tr: Transport<R>,
-        ensures puts { Puts (asking (built_by B.answers self.old.builder) ⊥ (blocking Tr.Conn.Conn)) (blocking Tr.Conn.Conn) (chosen E.decoded E.encoded self.old.encoding.0) (Call.PutWithStream path.now)
-            (S.remaining source.old) (S.remaining source.new) self.old.mark self.new.mark self.old.former self.new.former self.old.machine self.new.machine result }
-        ensures counts { IfErr result (λ fault. CountsUpload (asking (built_by B.answers self.old.builder) ⊥ (blocking Tr.Conn.Conn)) (blocking Tr.Conn.Conn) (chosen E.decoded E.encoded self.old.encoding.0) (Call.PutWithStream path.now)
-            (S.remaining source.old) (S.remaining source.new) self.old.mark self.old.former self.new.former self.old.machine self.new.machine fault) }
-        ensures encoding { self.new.encoding ≡ self.old.encoding }
-        ensures builder { self.new.builder ≡ self.old.builder }
+        ensures puts { Puts (asking (built_by B.answers self.old.builder) ⊥ (blocking Tr.Conn.Conn))
+            (blocking Tr.Conn.Conn) (chosen E.decoded E.encoded self.old.encoding.0)
+            (Call.PutWithStream path.now) (S.remaining source.old) (S.remaining source.new)
+            self.old.mark self.new.mark self.old.former self.new.former self.old.machine
+            self.new.machine result }
+        ensures counts { IfErr result (λ fault. CountsUpload
+            (asking (built_by B.answers self.old.builder) ⊥ (blocking Tr.Conn.Conn))
+            (blocking Tr.Conn.Conn) (chosen E.decoded E.encoded self.old.encoding.0)
+            (Call.PutWithStream path.now) (S.remaining source.old) (S.remaining source.new)
+            self.old.mark self.old.former self.new.former self.old.machine self.new.machine fault) }
+        ensures keeps { KeepsChoices self.old self.new }
     {
         match self.put_with_stream(alloc, rt, path) {
             Ok(transfer) => self.store(alloc, source, progress, transfer),
@@ -113,12 +124,17 @@ where
     ) -> FtpResult<u64>
     where
         Tr: Transport<R>,
-        ensures puts { Puts (asking (built_by B.answers self.old.builder) ⊥ (blocking Tr.Conn.Conn)) (blocking Tr.Conn.Conn) (chosen E.decoded E.encoded self.old.encoding.0) (Call.AppendWithStream path.now)
-            (S.remaining source.old) (S.remaining source.new) self.old.mark self.new.mark self.old.former self.new.former self.old.machine self.new.machine result }
-        ensures counts { IfErr result (λ fault. CountsUpload (asking (built_by B.answers self.old.builder) ⊥ (blocking Tr.Conn.Conn)) (blocking Tr.Conn.Conn) (chosen E.decoded E.encoded self.old.encoding.0) (Call.AppendWithStream path.now)
-            (S.remaining source.old) (S.remaining source.new) self.old.mark self.old.former self.new.former self.old.machine self.new.machine fault) }
-        ensures encoding { self.new.encoding ≡ self.old.encoding }
-        ensures builder { self.new.builder ≡ self.old.builder }
+        ensures puts { Puts (asking (built_by B.answers self.old.builder) ⊥ (blocking Tr.Conn.Conn))
+            (blocking Tr.Conn.Conn) (chosen E.decoded E.encoded self.old.encoding.0)
+            (Call.AppendWithStream path.now) (S.remaining source.old) (S.remaining source.new)
+            self.old.mark self.new.mark self.old.former self.new.former self.old.machine
+            self.new.machine result }
+        ensures counts { IfErr result (λ fault. CountsUpload
+            (asking (built_by B.answers self.old.builder) ⊥ (blocking Tr.Conn.Conn))
+            (blocking Tr.Conn.Conn) (chosen E.decoded E.encoded self.old.encoding.0)
+            (Call.AppendWithStream path.now) (S.remaining source.old) (S.remaining source.new)
+            self.old.mark self.old.former self.new.former self.old.machine self.new.machine fault) }
+        ensures keeps { KeepsChoices self.old self.new }
     {
         self.append_file_with(alloc, rt, path, source, &mut NoProgress)
     }
@@ -137,12 +153,17 @@ where
     ) -> FtpResult<u64>
     where
         Tr: Transport<R>,
-        ensures puts { Puts (asking (built_by B.answers self.old.builder) ⊥ (blocking Tr.Conn.Conn)) (blocking Tr.Conn.Conn) (chosen E.decoded E.encoded self.old.encoding.0) (Call.AppendWithStream path.now)
-            (S.remaining source.old) (S.remaining source.new) self.old.mark self.new.mark self.old.former self.new.former self.old.machine self.new.machine result }
-        ensures counts { IfErr result (λ fault. CountsUpload (asking (built_by B.answers self.old.builder) ⊥ (blocking Tr.Conn.Conn)) (blocking Tr.Conn.Conn) (chosen E.decoded E.encoded self.old.encoding.0) (Call.AppendWithStream path.now)
-            (S.remaining source.old) (S.remaining source.new) self.old.mark self.old.former self.new.former self.old.machine self.new.machine fault) }
-        ensures encoding { self.new.encoding ≡ self.old.encoding }
-        ensures builder { self.new.builder ≡ self.old.builder }
+        ensures puts { Puts (asking (built_by B.answers self.old.builder) ⊥ (blocking Tr.Conn.Conn))
+            (blocking Tr.Conn.Conn) (chosen E.decoded E.encoded self.old.encoding.0)
+            (Call.AppendWithStream path.now) (S.remaining source.old) (S.remaining source.new)
+            self.old.mark self.new.mark self.old.former self.new.former self.old.machine
+            self.new.machine result }
+        ensures counts { IfErr result (λ fault. CountsUpload
+            (asking (built_by B.answers self.old.builder) ⊥ (blocking Tr.Conn.Conn))
+            (blocking Tr.Conn.Conn) (chosen E.decoded E.encoded self.old.encoding.0)
+            (Call.AppendWithStream path.now) (S.remaining source.old) (S.remaining source.new)
+            self.old.mark self.old.former self.new.former self.old.machine self.new.machine fault) }
+        ensures keeps { KeepsChoices self.old self.new }
     {
         match self.append_with_stream(alloc, rt, path) {
             Ok(transfer) => self.store(alloc, source, progress, transfer),
@@ -168,12 +189,16 @@ where
     ) -> FtpResult<D>
     where
         Tr: Transport<R>,
-        ensures retrieves { Retrieves (asking (built_by B.answers self.old.builder) ⊥ (blocking Tr.Conn.Conn)) (blocking Tr.Conn.Conn) (chosen E.decoded E.encoded self.old.encoding.0) (Call.RetrAsStream path.now)
-            F.reads self.old.mark self.new.mark self.old.former self.new.former self.old.machine self.new.machine result }
-        ensures counts { IfErr result (λ fault. CountsDownload (asking (built_by B.answers self.old.builder) ⊥ (blocking Tr.Conn.Conn)) (blocking Tr.Conn.Conn) (chosen E.decoded E.encoded self.old.encoding.0) (Call.RetrAsStream path.now)
-            F.reads self.old.mark self.old.former self.new.former self.old.machine self.new.machine fault) }
-        ensures encoding { self.new.encoding ≡ self.old.encoding }
-        ensures builder { self.new.builder ≡ self.old.builder }
+        ensures retrieves { Retrieves (asking (built_by B.answers self.old.builder) ⊥
+            (blocking Tr.Conn.Conn)) (blocking Tr.Conn.Conn) (chosen E.decoded E.encoded
+            self.old.encoding.0) (Call.RetrAsStream path.now) F.reads self.old.mark self.new.mark
+            self.old.former self.new.former self.old.machine self.new.machine result }
+        ensures counts { IfErr result (λ fault. CountsDownload
+            (asking (built_by B.answers self.old.builder) ⊥ (blocking Tr.Conn.Conn))
+            (blocking Tr.Conn.Conn) (chosen E.decoded E.encoded self.old.encoding.0)
+            (Call.RetrAsStream path.now) F.reads self.old.mark self.old.former self.new.former
+            self.old.machine self.new.machine fault) }
+        ensures keeps { KeepsChoices self.old self.new }
     {
         match self.retr_as_stream(alloc, rt, path) {
             Ok(mut transfer) => {
@@ -205,12 +230,17 @@ where
     ) -> FtpResult<u64>
     where
         Tr: Transport<R>,
-        ensures writes { WritesTo (asking (built_by B.answers self.old.builder) ⊥ (blocking Tr.Conn.Conn)) (blocking Tr.Conn.Conn) (chosen E.decoded E.encoded self.old.encoding.0) (Call.RetrAsStream path.now)
-            (W.contents writer.old) (W.contents writer.new) self.old.mark self.new.mark self.old.former self.new.former self.old.machine self.new.machine result }
-        ensures counts { IfErr result (λ fault. CountsSaving (asking (built_by B.answers self.old.builder) ⊥ (blocking Tr.Conn.Conn)) (blocking Tr.Conn.Conn) (chosen E.decoded E.encoded self.old.encoding.0) (Call.RetrAsStream path.now)
-            (W.contents writer.old) (W.contents writer.new) self.old.mark self.old.former self.new.former self.old.machine self.new.machine fault) }
-        ensures encoding { self.new.encoding ≡ self.old.encoding }
-        ensures builder { self.new.builder ≡ self.old.builder }
+        ensures writes { WritesTo (asking (built_by B.answers self.old.builder) ⊥
+            (blocking Tr.Conn.Conn)) (blocking Tr.Conn.Conn) (chosen E.decoded E.encoded
+            self.old.encoding.0) (Call.RetrAsStream path.now) (W.contents writer.old)
+            (W.contents writer.new) self.old.mark self.new.mark self.old.former self.new.former
+            self.old.machine self.new.machine result }
+        ensures counts { IfErr result (λ fault. CountsSaving
+            (asking (built_by B.answers self.old.builder) ⊥ (blocking Tr.Conn.Conn))
+            (blocking Tr.Conn.Conn) (chosen E.decoded E.encoded self.old.encoding.0)
+            (Call.RetrAsStream path.now) (W.contents writer.old) (W.contents writer.new)
+            self.old.mark self.old.former self.new.former self.old.machine self.new.machine fault) }
+        ensures keeps { KeepsChoices self.old self.new }
     {
         match self.retr_as_stream(alloc, rt, path) {
             Ok(transfer) => self.receive(alloc, writer, progress, transfer),
@@ -226,11 +256,11 @@ where
         progress: &mut P,
         mut transfer: Transfer<Tr::Conn>,
     ) -> FtpResult<u64>
-        ensures receives { Receives (blocking Tr.Conn.Conn) (chosen E.decoded E.encoded self.old.encoding.0)
-            (W.contents writer.old) (W.contents writer.new) transfer self.old.mark self.new.mark self.old.machine self.new.machine result }
-        ensures encoding { self.new.encoding ≡ self.old.encoding }
-        ensures builder { self.new.builder ≡ self.old.builder }
-        ensures former { self.new.former ≡ self.old.former }
+        ensures receives { Receives (blocking Tr.Conn.Conn)
+            (chosen E.decoded E.encoded self.old.encoding.0) (W.contents writer.old)
+            (W.contents writer.new) transfer self.old.mark self.new.mark self.old.machine
+            self.new.machine result }
+        ensures keeps { Keeps self.old self.new }
     {
         let mut watch = Watch::new(progress);
         let saved = save(alloc, &mut transfer, writer, &mut watch);
@@ -246,11 +276,10 @@ where
         progress: &mut P,
         mut transfer: Transfer<Tr::Conn>,
     ) -> FtpResult<u64>
-        ensures stores { Stores (blocking Tr.Conn.Conn) (chosen E.decoded E.encoded self.old.encoding.0)
-            (S.remaining source.old) (S.remaining source.new) transfer self.old.mark self.new.mark self.old.machine self.new.machine result }
-        ensures encoding { self.new.encoding ≡ self.old.encoding }
-        ensures builder { self.new.builder ≡ self.old.builder }
-        ensures former { self.new.former ≡ self.old.former }
+        ensures stores { Stores (blocking Tr.Conn.Conn) (chosen E.decoded E.encoded
+            self.old.encoding.0) (S.remaining source.old) (S.remaining source.new) transfer
+            self.old.mark self.new.mark self.old.machine self.new.machine result }
+        ensures keeps { Keeps self.old self.new }
     {
         let text = self.machine.state.settings.text;
         let mut watch = Watch::new(progress);
@@ -269,9 +298,7 @@ where
     fn note<T>(&mut self, copied: &FtpResult<T>, data_failed: bool)
         ensures machine { self.new.machine ≡ self.old.machine }
         ensures mark { self.new.mark ≡ self.old.mark }
-        ensures encoding { self.new.encoding ≡ self.old.encoding }
-        ensures builder { self.new.builder ≡ self.old.builder }
-        ensures former { self.new.former ≡ self.old.former }
+        ensures keeps { Keeps self.old self.new }
     {
         if let Err(fault) = copied {
             self.note_failure(fault, data_failed);
@@ -281,11 +308,10 @@ where
     /// Brings the transfer of a whole file to its end. Where memory runs out for that the session has failed, since the
     /// file's call has begun.
     fn finish_whole(&mut self, alloc: Global, transfer: Transfer<Tr::Conn>) -> FtpResult<()>
-        ensures finishes { FinishesWhole (blocking Tr.Conn.Conn) (chosen E.decoded E.encoded self.old.encoding.0) transfer
-            self.old.mark self.new.mark self.old.machine self.new.machine result }
-        ensures encoding { self.new.encoding ≡ self.old.encoding }
-        ensures builder { self.new.builder ≡ self.old.builder }
-        ensures former { self.new.former ≡ self.old.former }
+        ensures finishes { FinishesWhole (blocking Tr.Conn.Conn)
+            (chosen E.decoded E.encoded self.old.encoding.0) transfer self.old.mark self.new.mark
+            self.old.machine self.new.machine result }
+        ensures keeps { Keeps self.old self.new }
     {
         let ended = self.finish(alloc, transfer);
         self.fail_if(lacks_memory(&ended));
@@ -296,9 +322,7 @@ where
     fn fail_if(&mut self, lost: bool)
         ensures machine { self.new.machine ≡ failed_if lost self.old.machine }
         ensures mark { self.new.mark ≡ self.old.mark }
-        ensures encoding { self.new.encoding ≡ self.old.encoding }
-        ensures builder { self.new.builder ≡ self.old.builder }
-        ensures former { self.new.former ≡ self.old.former }
+        ensures keeps { Keeps self.old self.new }
     {
         if lost {
             self.fail();
@@ -307,10 +331,9 @@ where
 
     /// Leaves a transfer, and hands its data connection back, closed.
     fn abandon(&mut self, alloc: Global, transfer: Transfer<Tr::Conn>)
-        ensures abandons { Abandons Tr.Conn.tells transfer self.old.mark self.new.mark self.old.machine self.new.machine }
-        ensures encoding { self.new.encoding ≡ self.old.encoding }
-        ensures builder { self.new.builder ≡ self.old.builder }
-        ensures former { self.new.former ≡ self.old.former }
+        ensures abandons { Abandons Tr.Conn.tells transfer self.old.mark self.new.mark
+            self.old.machine self.new.machine }
+        ensures keeps { Keeps self.old self.new }
     {
         if take_back(self, transfer).is_ok() {
             pass_over(self.machine.carry(alloc, &Call::Leave));

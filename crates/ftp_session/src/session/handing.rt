@@ -8,6 +8,7 @@ ghost use Rattle.ftp_session.specs.Polled.{HandsOver};
 ghost use Rattle.ftp_session.specs.Handed.{ComesTo, GivesUp, with_data};
 ghost use Rattle.ftp_dialogue.specs.Sound.{is_live, next_number};
 ghost use Rattle.ftp_dialogue.specs.Steps.Moving.{withheld};
+ghost use Rattle.ftp_session.specs.Kept.{KeepsChoices};
 
 use super::Answer;
 use super::client::Session;
@@ -117,9 +118,9 @@ impl<Tr: Network, K: Drop, E: Encoding, B: Drop> HandsTransfers<Tr::Conn> for Se
         replies: bool,
         direction: Direction,
     ) -> FtpResult<(Option<Response>, Transfer<Tr::Conn>)>
-        ensures hands { HandsOver replies direction mark answer self.old.mark self.new.mark self.old.former self.new.former self.old.machine self.new.machine result }
-        ensures encoding { self.new.encoding ≡ self.old.encoding }
-        ensures builder { self.new.builder ≡ self.old.builder }
+        ensures hands { HandsOver replies direction mark answer self.old.mark self.new.mark
+            self.old.former self.new.former self.old.machine self.new.machine result }
+        ensures keeps { KeepsChoices self.old self.new }
     {
         let reply = match opened(answer, replies) {
             Ok(reply) => reply,
@@ -138,11 +139,12 @@ impl<Tr: Network, K: Drop, E: Encoding, B: Drop> HandsTransfers<Tr::Conn> for Se
 
 /// Takes the data connection out of the session, where the transfer of this number is live on it.
 fn hand_out<Tr: Network>(machine: &mut Machine<Tr>, number: u64) -> Option<Tr::Conn>
-    ensures told { (conn : Tr.Conn) → result ≡ Some conn → machine.old.net.data_conn ≡ Some (Tr.Conn.told conn) }
+    ensures told { (conn : Tr.Conn) → result ≡ Some conn → machine.old.net.data_conn ≡ Some
+        (Tr.Conn.told conn) }
     ensures live { is_none result ≡ false → is_live number machine.old.state.counts.owed ≡ true }
     ensures taken { is_none result ≡ false → machine.new ≡ with_data None machine.old }
-    ensures lacks { is_none result ≡ true →
-        (is_none machine.old.net.data_conn ≡ true) ⊎ (is_live number machine.old.state.counts.owed ≡ false) }
+    ensures lacks { is_none result ≡ true → (is_none machine.old.net.data_conn ≡ true) ⊎
+        (is_live number machine.old.state.counts.owed ≡ false) }
     ensures unchanged { is_none result ≡ true → machine.new ≡ machine.old }
 {
     if !machine.state.counts.is_live(number) {

@@ -47,13 +47,18 @@ where
         ensures encoding { IfOk result (λ session. session.encoding.0 ≡ None) }
         ensures builder { IfOk result (λ session. session.builder ≡ None) }
         ensures mark { IfOk result (λ session. session.mark ≡ None) }
-        ensures connects { MatchResult result
-            (λ session. ConnectsUnder (blocking Tr.Conn.Conn)
-            (HandsOver Tr.Conn Tr.Conn.told Tr.gives (Tr.answers connector domain.now)) (chosen E.decoded E.encoded None) Tr.refuses (connects_to None addresses.now) faults.NoAddress (Tr.ready transport) (Tr.closed transport) (Tr.asked transport) session.machine)
-            (λ fault. FailsToConnectUnder (blocking Tr.Conn.Conn)
-            (HandsOver Tr.Conn Tr.Conn.told Tr.gives (Tr.answers connector domain.now)) (chosen E.decoded E.encoded None) Tr.refuses (connects_to None addresses.now) faults.NoAddress (Tr.ready transport) (Tr.closed transport) (Tr.asked transport) fault) }
+        ensures connects { MatchResult result (λ session. ConnectsUnder (blocking Tr.Conn.Conn)
+            (HandsOver Tr.Conn Tr.Conn.told Tr.gives (Tr.answers connector domain.now))
+            (chosen E.decoded E.encoded None) Tr.refuses (connects_to None addresses.now)
+            faults.NoAddress (Tr.ready transport) (Tr.closed transport) (Tr.asked transport)
+            session.machine) (λ fault. FailsToConnectUnder (blocking Tr.Conn.Conn)
+            (HandsOver Tr.Conn Tr.Conn.told Tr.gives (Tr.answers connector domain.now))
+            (chosen E.decoded E.encoded None) Tr.refuses (connects_to None addresses.now)
+            faults.NoAddress (Tr.ready transport) (Tr.closed transport) (Tr.asked transport) fault) }
         ensures counts { IfErr result (λ fault. CountsConnectingUnder (blocking Tr.Conn.Conn)
-            (HandsOver Tr.Conn Tr.Conn.told Tr.gives (Tr.answers connector domain.now)) (chosen E.decoded E.encoded None) Tr.refuses (connects_to None addresses.now) faults.NoAddress (Tr.ready transport) (Tr.closed transport) (Tr.asked transport) fault) }
+            (HandsOver Tr.Conn Tr.Conn.told Tr.gives (Tr.answers connector domain.now))
+            (chosen E.decoded E.encoded None) Tr.refuses (connects_to None addresses.now)
+            faults.NoAddress (Tr.ready transport) (Tr.closed transport) (Tr.asked transport) fault) }
     {
         let Ok(name) = String::from_str(alloc, domain) else {
             drop(connector);
@@ -99,12 +104,13 @@ where
         ensures encoding { IfOk result (λ session. session.encoding.0 ≡ None) }
         ensures builder { IfOk result (λ session. session.builder ≡ None) }
         ensures mark { IfOk result (λ session. session.mark ≡ None) }
-        ensures greets { MatchResult result
-            (λ session. GreetsUnder (blocking Tr.Conn.Conn)
-            (HandsOver Tr.Conn Tr.Conn.told Tr.gives (Tr.answers connector (string_bytes name))) (chosen E.decoded E.encoded None) (Tr.Conn.told conn)
-            (first_net (Tr.asked transport) (Tr.ready transport) (Tr.closed transport)) session.machine)
-            (λ fault. FailsUnder (blocking Tr.Conn.Conn)
-            (HandsOver Tr.Conn Tr.Conn.told Tr.gives (Tr.answers connector (string_bytes name))) (chosen E.decoded E.encoded None) (Tr.Conn.told conn)
+        ensures greets { MatchResult result (λ session. GreetsUnder (blocking Tr.Conn.Conn)
+            (HandsOver Tr.Conn Tr.Conn.told Tr.gives (Tr.answers connector (string_bytes name)))
+            (chosen E.decoded E.encoded None) (Tr.Conn.told conn)
+            (first_net (Tr.asked transport) (Tr.ready transport) (Tr.closed transport))
+            session.machine) (λ fault. FailsUnder (blocking Tr.Conn.Conn)
+            (HandsOver Tr.Conn Tr.Conn.told Tr.gives (Tr.answers connector (string_bytes name)))
+            (chosen E.decoded E.encoded None) (Tr.Conn.told conn)
             (first_net (Tr.asked transport) (Tr.ready transport) (Tr.closed transport)) fault) }
     {
         match Tr::put_under(&connector, name.as_str(), conn) {

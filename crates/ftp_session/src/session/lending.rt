@@ -3,6 +3,7 @@
 
 ghost use Rattle.std.specs.Prelude.{◌≡◌};
 ghost use Rattle.ftp_session.specs.Handed.{LooksIf, as_seen, watches};
+ghost use Rattle.ftp_session.specs.Kept.{Keeps};
 
 use super::Chosen;
 use super::client::Session;
@@ -40,9 +41,7 @@ impl<Tr: Network, K: Drop, E: Encoding, B: Drop> LendsMachine<Tr, E, B> for Sess
     fn look(&mut self)
         ensures looks { LooksIf (watches self.old.mark self.old.machine) self.old.mark self.new.mark }
         ensures seen { self.new.machine ≡ as_seen self.new.mark self.old.machine }
-        ensures encoding { self.new.encoding ≡ self.old.encoding }
-        ensures builder { self.new.builder ≡ self.old.builder }
-        ensures former { self.new.former ≡ self.old.former }
+        ensures keeps { Keeps self.old self.new }
     {
         look(&mut self.machine, &mut self.mark);
     }
@@ -53,7 +52,9 @@ impl<Tr: Network, K: Drop, E: Encoding, B: Drop> LendsMachine<Tr, E, B> for Sess
         ensures machine { result.machine.now ≡ self.old.machine }
         ensures encoding { result.encoding.now ≡ self.old.encoding }
         ensures builder { result.builder.now ≡ self.old.builder }
-        ensures* writes_back { sem 𝓛 (Lends (the_row Tr.row K.row E.row B.row Tr.Conn.row Tr.Listener.row Tr.Network Tr.Conn.Tells) (machine_row Tr.row Tr.Conn.row Tr.Listener.row Tr.Network Tr.Conn.Tells) self.entry result.machine
+        ensures* writes_back { sem 𝓛 (Lends (the_row Tr.row K.row E.row B.row Tr.Conn.row
+            Tr.Listener.row Tr.Network Tr.Conn.Tells) (machine_row Tr.row Tr.Conn.row
+            Tr.Listener.row Tr.Network Tr.Conn.Tells) self.entry result.machine
             (λ machine. record self.old { machine = machine })) }
     {
         Lent {

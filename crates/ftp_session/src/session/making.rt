@@ -27,8 +27,8 @@ pub fn make<Tr: Network, R, E: Encoding, B: PassiveStreamBuilder<Tr::Conn>>(
 where
     Tr::Conn: Conn,
     Tr: Transport<R>,
-    ensures made { MadeDrained (asking (built_by B.answers builder.now) ⊥ (blocking Tr.Conn.Conn)) (coding_of E.decoded E.encoded encoding.now) call.now
-        machine.old machine.new result }
+    ensures made { MadeDrained (asking (built_by B.answers builder.now) ⊥ (blocking Tr.Conn.Conn))
+        (coding_of E.decoded E.encoded encoding.now) call.now machine.old machine.new result }
 {
     if is_local(call) {
         machine.carry(alloc, call)
@@ -51,8 +51,8 @@ where
     Tr: Transport<R>,
     requires channel { is_local call.now ≡ false }
     requires unheld { of_transfer call.now ≡ false }
-    ensures made { PlaysInStep (asking (built_by B.answers builder.now) ⊥ (blocking Tr.Conn.Conn)) (coding_of E.decoded E.encoded encoding.now) call.now
-        machine.old machine.new result }
+    ensures made { PlaysInStep (asking (built_by B.answers builder.now) ⊥ (blocking Tr.Conn.Conn))
+        (coding_of E.decoded E.encoded encoding.now) call.now machine.old machine.new result }
 {
     machine.call_in_step(&By(rt, builder), alloc, encoding, call)
 }

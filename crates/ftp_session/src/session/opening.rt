@@ -11,6 +11,7 @@ ghost use Rattle.ftp_dialogue.specs.Counted.{CountsFaultsBeside};
 ghost use Rattle.ftp_session.specs.Handed.{HandsConnection, OpensAs, OpensEither, Opens, OpensReplied, with_reply, without_reply};
 ghost use Rattle.ftp_dialogue.specs.Link.{asking, blocking, built_by};
 ghost use Rattle.ftp_transfer.specs.declared.direction.Direction.TheVariants as directions;
+ghost use Rattle.ftp_session.specs.Kept.{KeepsChoices};
 
 use super::client::Session;
 use super::handing::HandsTransfers;
@@ -43,11 +44,14 @@ where
     ) -> FtpResult<Transfer<Tr::Conn>>
     where
         Tr: Transport<R>,
-        ensures opens { Opens (asking (built_by B.answers self.old.builder) ⊥ (blocking Tr.Conn.Conn)) (chosen E.decoded E.encoded self.old.encoding.0) (Call.RetrAsStream path.now)
-            directions.Download self.old.mark self.new.mark self.old.former self.new.former self.old.machine self.new.machine result }
-        ensures counts { IfErr result (λ fault. CountsFaultsBeside (asking (built_by B.answers self.old.builder) ⊥ (blocking Tr.Conn.Conn)) self.old.machine self.new.machine (Fault fault)) }
-        ensures encoding { self.new.encoding ≡ self.old.encoding }
-        ensures builder { self.new.builder ≡ self.old.builder }
+        ensures opens { Opens (asking (built_by B.answers self.old.builder) ⊥
+            (blocking Tr.Conn.Conn)) (chosen E.decoded E.encoded self.old.encoding.0)
+            (Call.RetrAsStream path.now) directions.Download self.old.mark self.new.mark
+            self.old.former self.new.former self.old.machine self.new.machine result }
+        ensures counts { IfErr result (λ fault. CountsFaultsBeside
+            (asking (built_by B.answers self.old.builder) ⊥ (blocking Tr.Conn.Conn))
+            self.old.machine self.new.machine (Fault fault)) }
+        ensures keeps { KeepsChoices self.old self.new }
     {
         without_reply(self.open(
             alloc,
@@ -70,11 +74,14 @@ where
     ) -> FtpResult<Transfer<Tr::Conn>>
     where
         Tr: Transport<R>,
-        ensures opens { Opens (asking (built_by B.answers self.old.builder) ⊥ (blocking Tr.Conn.Conn)) (chosen E.decoded E.encoded self.old.encoding.0) (Call.PutWithStream path.now)
-            directions.Upload self.old.mark self.new.mark self.old.former self.new.former self.old.machine self.new.machine result }
-        ensures counts { IfErr result (λ fault. CountsFaultsBeside (asking (built_by B.answers self.old.builder) ⊥ (blocking Tr.Conn.Conn)) self.old.machine self.new.machine (Fault fault)) }
-        ensures encoding { self.new.encoding ≡ self.old.encoding }
-        ensures builder { self.new.builder ≡ self.old.builder }
+        ensures opens { Opens (asking (built_by B.answers self.old.builder) ⊥
+            (blocking Tr.Conn.Conn)) (chosen E.decoded E.encoded self.old.encoding.0)
+            (Call.PutWithStream path.now) directions.Upload self.old.mark self.new.mark
+            self.old.former self.new.former self.old.machine self.new.machine result }
+        ensures counts { IfErr result (λ fault. CountsFaultsBeside
+            (asking (built_by B.answers self.old.builder) ⊥ (blocking Tr.Conn.Conn))
+            self.old.machine self.new.machine (Fault fault)) }
+        ensures keeps { KeepsChoices self.old self.new }
     {
         without_reply(self.open(
             alloc,
@@ -97,11 +104,14 @@ where
     ) -> FtpResult<Transfer<Tr::Conn>>
     where
         Tr: Transport<R>,
-        ensures opens { Opens (asking (built_by B.answers self.old.builder) ⊥ (blocking Tr.Conn.Conn)) (chosen E.decoded E.encoded self.old.encoding.0) (Call.AppendWithStream path.now)
-            directions.Upload self.old.mark self.new.mark self.old.former self.new.former self.old.machine self.new.machine result }
-        ensures counts { IfErr result (λ fault. CountsFaultsBeside (asking (built_by B.answers self.old.builder) ⊥ (blocking Tr.Conn.Conn)) self.old.machine self.new.machine (Fault fault)) }
-        ensures encoding { self.new.encoding ≡ self.old.encoding }
-        ensures builder { self.new.builder ≡ self.old.builder }
+        ensures opens { Opens (asking (built_by B.answers self.old.builder) ⊥
+            (blocking Tr.Conn.Conn)) (chosen E.decoded E.encoded self.old.encoding.0)
+            (Call.AppendWithStream path.now) directions.Upload self.old.mark self.new.mark
+            self.old.former self.new.former self.old.machine self.new.machine result }
+        ensures counts { IfErr result (λ fault. CountsFaultsBeside
+            (asking (built_by B.answers self.old.builder) ⊥ (blocking Tr.Conn.Conn))
+            self.old.machine self.new.machine (Fault fault)) }
+        ensures keeps { KeepsChoices self.old self.new }
     {
         without_reply(self.open(
             alloc,
@@ -127,11 +137,14 @@ where
     ) -> FtpResult<(Response, Transfer<Tr::Conn>)>
     where
         Tr: Transport<R>,
-        ensures opens { OpensReplied (asking (built_by B.answers self.old.builder) ⊥ (blocking Tr.Conn.Conn)) (chosen E.decoded E.encoded self.old.encoding.0) (Call.CustomDataCommand line.now expected.now)
-            directions.Download self.old.mark self.new.mark self.old.former self.new.former self.old.machine self.new.machine result }
-        ensures counts { IfErr result (λ fault. CountsFaultsBeside (asking (built_by B.answers self.old.builder) ⊥ (blocking Tr.Conn.Conn)) self.old.machine self.new.machine (Fault fault)) }
-        ensures encoding { self.new.encoding ≡ self.old.encoding }
-        ensures builder { self.new.builder ≡ self.old.builder }
+        ensures opens { OpensReplied (asking (built_by B.answers self.old.builder) ⊥
+            (blocking Tr.Conn.Conn)) (chosen E.decoded E.encoded self.old.encoding.0)
+            (Call.CustomDataCommand line.now expected.now) directions.Download self.old.mark
+            self.new.mark self.old.former self.new.former self.old.machine self.new.machine result }
+        ensures counts { IfErr result (λ fault. CountsFaultsBeside
+            (asking (built_by B.answers self.old.builder) ⊥ (blocking Tr.Conn.Conn))
+            self.old.machine self.new.machine (Fault fault)) }
+        ensures keeps { KeepsChoices self.old self.new }
     {
         with_reply(self.open(
             alloc,
@@ -155,11 +168,12 @@ where
     where
         Tr: Transport<R>,
         requires { HandsConnection replies (call_of call) }
-        ensures opens { OpensAs (asking (built_by B.answers self.old.builder) ⊥ (blocking Tr.Conn.Conn)) (chosen E.decoded E.encoded self.old.encoding.0)
-            (call_of call.entry) replies direction self.old.mark self.new.mark self.old.former self.new.former self.old.machine self.new.machine result }
+        ensures opens { OpensAs (asking (built_by B.answers self.old.builder) ⊥
+            (blocking Tr.Conn.Conn)) (chosen E.decoded E.encoded self.old.encoding.0)
+            (call_of call.entry) replies direction self.old.mark self.new.mark self.old.former
+            self.new.former self.old.machine self.new.machine result }
         ensures replies { IfOk result (λ opened. is_none opened.0 ≡ not replies) }
-        ensures encoding { self.new.encoding ≡ self.old.encoding }
-        ensures builder { self.new.builder ≡ self.old.builder }
+        ensures keeps { KeepsChoices self.old self.new }
     {
         look(&mut self.machine, &mut self.mark);
         match call.owned(alloc) {
@@ -184,11 +198,12 @@ where
     where
         Tr: Transport<R>,
         requires { HandsConnection replies call.now }
-        ensures opens { OpensEither (asking (built_by B.answers self.old.builder) ⊥ (blocking Tr.Conn.Conn)) (chosen E.decoded E.encoded self.old.encoding.0) call.now
-            replies direction self.old.mark self.new.mark self.old.former self.new.former self.old.machine self.new.machine result }
+        ensures opens { OpensEither (asking (built_by B.answers self.old.builder) ⊥
+            (blocking Tr.Conn.Conn)) (chosen E.decoded E.encoded self.old.encoding.0) call.now
+            replies direction self.old.mark self.new.mark self.old.former self.new.former
+            self.old.machine self.new.machine result }
         ensures replies { IfOk result (λ opened. is_none opened.0 ≡ not replies) }
-        ensures encoding { self.new.encoding ≡ self.old.encoding }
-        ensures builder { self.new.builder ≡ self.old.builder }
+        ensures keeps { KeepsChoices self.old self.new }
     {
         let mark = match self.new_mark(alloc) {
             Ok(mark) => mark,

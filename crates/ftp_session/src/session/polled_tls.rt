@@ -10,6 +10,7 @@ ghost use Rattle.ftp_session.specs.Counting.{CountsChange};
 ghost use Rattle.ftp_session.specs.Handed.{LooksIf, as_seen, watches};
 ghost use Rattle.ftp_session.specs.Polled.{IfFails};
 ghost use Rattle.ftp_session.specs.Securing.{Changes, GivesUp, PollsChange, TakesOff, is_beside, secured_from, unchanged};
+ghost use Rattle.ftp_session.specs.Kept.{Keeps};
 
 use super::client::Session;
 use super::looking::look;
@@ -53,9 +54,7 @@ where
         ensures looks { LooksIf (watches self.old.mark self.old.machine) self.old.mark self.new.mark }
         ensures seen { self.new.machine ≡ as_seen self.new.mark self.old.machine }
         ensures value { result ≡ is_beside self.new.machine }
-        ensures encoding { self.new.encoding ≡ self.old.encoding }
-        ensures builder { self.new.builder ≡ self.old.builder }
-        ensures former { self.new.former ≡ self.old.former }
+        ensures keeps { Keeps self.old self.new }
     {
         look(&mut self.machine, &mut self.mark);
         is_beside(&self.machine)
@@ -68,12 +67,12 @@ where
     /// # Errors
     /// `SecureError` with the connector's text; the session has failed then.
     fn poll_put_under(&mut self, rt: &R, handed: Option<(K, String)>) -> Poll<FtpResult<()>>
-        ensures changes { PollsChange (polling Tr.Conn.PollConn) self.old.machine self.new.machine result }
-        ensures counts { IfFails result (λ fault. CountsChange (Tr.Conn.tells → Tr.Conn.secures (Err fault)) fault) }
+        ensures changes { PollsChange (polling Tr.Conn.PollConn) self.old.machine self.new.machine
+            result }
+        ensures counts { IfFails result (λ fault. CountsChange
+            (Tr.Conn.tells → Tr.Conn.secures (Err fault)) fault) }
         ensures mark { self.new.mark ≡ self.old.mark }
-        ensures encoding { self.new.encoding ≡ self.old.encoding }
-        ensures builder { self.new.builder ≡ self.old.builder }
-        ensures former { self.new.former ≡ self.old.former }
+        ensures keeps { Keeps self.old self.new }
     {
         let plain = self.machine.begin_anew(Tr::gone());
         match shake(&mut self.machine.transport, rt, handed, plain) {
@@ -99,12 +98,13 @@ where
     /// # Errors
     /// The stream's, where it can't give its connection back; the session has failed then.
     fn take_off(&mut self) -> FtpResult<()>
-        ensures changes { Changes Tr.Conn.tells (TakesOff Tr.Conn Tr.Conn.told Tr.gives) unchanged self.old.machine self.new.machine result }
-        ensures counts { IfErr result (λ fault. CountsChange (TakesOff Tr.Conn Tr.Conn.told Tr.gives self.old.machine.channel.told (Err fault)) fault) }
+        ensures changes { Changes Tr.Conn.tells (TakesOff Tr.Conn Tr.Conn.told Tr.gives) unchanged
+            self.old.machine self.new.machine result }
+        ensures counts { IfErr result (λ fault. CountsChange
+            (TakesOff Tr.Conn Tr.Conn.told Tr.gives self.old.machine.channel.told (Err fault))
+            fault) }
         ensures mark { self.new.mark ≡ self.old.mark }
-        ensures encoding { self.new.encoding ≡ self.old.encoding }
-        ensures builder { self.new.builder ≡ self.old.builder }
-        ensures former { self.new.former ≡ self.old.former }
+        ensures keeps { Keeps self.old self.new }
     {
         self.uncover()
     }
@@ -142,9 +142,7 @@ pub fn give_up_change<Tr: SecureNetwork<K>, K: Drop, E: Encoding, B: Drop>(
 )
     ensures gives_up { GivesUp Tr.Conn.tells session.old.machine session.new.machine }
     ensures mark { session.new.mark ≡ session.old.mark }
-    ensures encoding { session.new.encoding ≡ session.old.encoding }
-    ensures builder { session.new.builder ≡ session.old.builder }
-    ensures former { session.new.former ≡ session.old.former }
+    ensures keeps { Keeps session.old session.new }
 {
     drop(session.machine.begin_anew(Tr::gone()));
     session.machine.channel.fail();
@@ -154,9 +152,7 @@ pub fn give_up_change<Tr: SecureNetwork<K>, K: Drop, E: Encoding, B: Drop>(
 pub fn secure_data<Tr: Network, K: Drop, E: Encoding, B: Drop>(session: &mut Session<Tr, K, E, B>)
     ensures machine { session.new.machine ≡ secured_from session.old.machine }
     ensures mark { session.new.mark ≡ session.old.mark }
-    ensures encoding { session.new.encoding ≡ session.old.encoding }
-    ensures builder { session.new.builder ≡ session.old.builder }
-    ensures former { session.new.former ≡ session.old.former }
+    ensures keeps { Keeps session.old session.new }
 {
     session.machine.state.settings.secure = true;
 }

@@ -13,8 +13,9 @@ ghost use Rattle.ftp_dialogue.specs.Steps.Moving.{withheld};
 ghost use Rattle.ftp_dialogue.specs.Steps.Polls.{StageIn, StartsTo};
 ghost use Rattle.ftp_calls.specs.Exchanges.{is_local};
 ghost use Rattle.ftp_calls.specs.Kinds.{IsPlain};
-ghost use Rattle.ftp_session.specs.PollCauses.{CausesPoll, keeps};
+ghost use Rattle.ftp_session.specs.PollCauses.{CausesPoll, kept_error};
 ghost use Rattle.ftp_session.specs.Polled.{CountsPoll, Drops, LooksFirst, PollsCall, PollsInStep, PollsNext};
+ghost use Rattle.ftp_session.specs.Kept.{Keeps};
 
 use super::client::Session;
 use super::looking::look;
@@ -69,7 +70,8 @@ impl Model for PolledCall {
       stage = p.stage;
     } };
 
-    ghost invariant = { λ p. StageIn (Some p.call) p.stage × (p.over ≡ false → is_local p.call ≡ false) };
+    ghost invariant = { λ p. StageIn (Some p.call) p.stage
+        × (p.over ≡ false → is_local p.call ≡ false) };
 }
 
 impl PolledCall {
@@ -81,7 +83,13 @@ impl PolledCall {
     /// A call that begins. It looks whether the transfer that was handed out was left before it sends anything. A call that is none of
     /// the control connection is never polled: it has its answer from the start.
     pub fn new(call: Call) -> PolledCall
-        ensures { result ≡ record { call = call; looks = true; over = is_local call; stage = At First } }
+        ensures { result ≡ record {
+          call = call;
+          looks = true;
+          over = is_local call;
+          stage = At
+              First;
+        } }
     {
         PolledCall {
             over: is_local(&call),
@@ -94,7 +102,13 @@ impl PolledCall {
     /// A call that begins without a look: the greeting, the end of a transfer that was taken back, and the last reply of
     /// one that is known to be left.
     pub fn alone(call: Call) -> PolledCall
-        ensures { result ≡ record { call = call; looks = false; over = is_local call; stage = At First } }
+        ensures { result ≡ record {
+          call = call;
+          looks = false;
+          over = is_local call;
+          stage = At
+              First;
+        } }
     {
         PolledCall {
             over: is_local(&call),
@@ -165,14 +179,17 @@ where
         polled: &mut PolledCall,
         w: &mut W,
     ) -> Poll<Answer>
-        ensures polls { PollsCall (asking (built_by B.answers self.old.builder) (Tr.PollTransport.may_wait ⊎ Tr.Conn.PollConn.may_wait) (polling Tr.Conn.PollConn)) Tr.Conn.PollConn.may_wait (chosen E.decoded E.encoded self.old.encoding.0)
-            polled.old polled.new self.old.mark self.new.mark self.old.machine self.new.machine result }
-        ensures counts { IsPlain polled.old.call → CountsPoll Tr.Conn.tells self.old.machine self.new.machine result }
-        ensures causes { CausesPoll (asking (built_by B.answers self.old.builder) (Tr.PollTransport.may_wait ⊎ Tr.Conn.PollConn.may_wait) (polling Tr.Conn.PollConn))
-            polled.old.call (keeps polled.old.stage) (keeps polled.new.stage) self.old.machine self.new.machine result }
-        ensures encoding { self.new.encoding ≡ self.old.encoding }
-        ensures builder { self.new.builder ≡ self.old.builder }
-        ensures former { self.new.former ≡ self.old.former }
+        ensures polls { PollsCall (asking (built_by B.answers self.old.builder)
+            (Tr.PollTransport.may_wait ⊎ Tr.Conn.PollConn.may_wait) (polling Tr.Conn.PollConn))
+            Tr.Conn.PollConn.may_wait (chosen E.decoded E.encoded self.old.encoding.0) polled.old
+            polled.new self.old.mark self.new.mark self.old.machine self.new.machine result }
+        ensures counts { IsPlain polled.old.call → CountsPoll Tr.Conn.tells self.old.machine
+            self.new.machine result }
+        ensures causes { CausesPoll (asking (built_by B.answers self.old.builder)
+            (Tr.PollTransport.may_wait ⊎ Tr.Conn.PollConn.may_wait) (polling Tr.Conn.PollConn))
+            polled.old.call (kept_error polled.old.stage) (kept_error polled.new.stage) self.old.machine
+            self.new.machine result }
+        ensures keeps { Keeps self.old self.new }
     {
         if polled.over {
             return Poll::Ready(Answer::Fault(FtpError::ConnectionError(
@@ -212,9 +229,7 @@ impl<Tr: Network, K: Drop, E: Encoding, B: Drop> DropsCalls for Session<Tr, K, E
     /// `ABOR` has gone out whole; that of a whole file or listing is left, too. A call that has its answer leaves nothing.
     fn drop_call(&mut self, polled: &PolledCall)
         ensures drops { Drops Tr.Conn.tells polled.now self.old.machine self.new.machine }
-        ensures encoding { self.new.encoding ≡ self.old.encoding }
-        ensures builder { self.new.builder ≡ self.old.builder }
-        ensures former { self.new.former ≡ self.old.former }
+        ensures keeps { Keeps self.old self.new }
         ensures mark { self.new.mark ≡ self.old.mark }
     {
         if !polled.over {
@@ -236,9 +251,7 @@ impl<Tr: Network, K: Drop, E: Encoding, B: Drop> DropsCalls for Session<Tr, K, E
     /// There is no memory for the end of a call that has begun: the session has failed.
     fn fail(&mut self)
         ensures machine { self.new.machine ≡ failed_from self.old.machine }
-        ensures encoding { self.new.encoding ≡ self.old.encoding }
-        ensures builder { self.new.builder ≡ self.old.builder }
-        ensures former { self.new.former ≡ self.old.former }
+        ensures keeps { Keeps self.old self.new }
         ensures mark { self.new.mark ≡ self.old.mark }
     {
         self.machine.channel.fail();
@@ -249,9 +262,7 @@ impl<Tr: Network, K: Drop, E: Encoding, B: Drop> DropsCalls for Session<Tr, K, E
     fn note_failure(&mut self, fault: &FtpError, data_failed: bool)
         ensures machine { self.new.machine ≡ self.old.machine }
         ensures mark { self.new.mark ≡ self.old.mark }
-        ensures encoding { self.new.encoding ≡ self.old.encoding }
-        ensures builder { self.new.builder ≡ self.old.builder }
-        ensures former { self.new.former ≡ self.old.former }
+        ensures keeps { Keeps self.old self.new }
     {
         if let FtpError::ConnectionError(ConnectionError::Io(_)) = fault {
             self.machine.note_failure(!data_failed);
@@ -287,7 +298,9 @@ where
     requires stage { StageIn (Some call.now) stage.old }
     requires channel { is_local call.now ≡ false }
     ensures stage { result ≡ poll.Pending → StageIn (Some call.now) stage.new }
-    ensures polls { PollsInStep (asking (built_by B.answers builder.now) (Tr.PollTransport.may_wait ⊎ Tr.Conn.PollConn.may_wait) (polling Tr.Conn.PollConn)) Tr.Conn.PollConn.may_wait (coding_of E.decoded E.encoded encoding.now) call.now stage.old
+    ensures polls { PollsInStep (asking (built_by B.answers builder.now)
+        (Tr.PollTransport.may_wait ⊎ Tr.Conn.PollConn.may_wait) (polling Tr.Conn.PollConn))
+        Tr.Conn.PollConn.may_wait (coding_of E.decoded E.encoded encoding.now) call.now stage.old
         stage.new behind.new machine.old machine.new result }
 {
     *behind = false;
@@ -325,7 +338,9 @@ where
     requires stage { StageIn (Some call.now) stage.old }
     requires channel { is_local call.now ≡ false }
     ensures stage { result ≡ poll.Pending → StageIn (Some call.now) stage.new }
-    ensures polls { PollsNext (asking (built_by B.answers builder.now) (Tr.PollTransport.may_wait ⊎ Tr.Conn.PollConn.may_wait) (polling Tr.Conn.PollConn)) Tr.Conn.PollConn.may_wait (coding_of E.decoded E.encoded encoding.now) call.now stage.old
+    ensures polls { PollsNext (asking (built_by B.answers builder.now)
+        (Tr.PollTransport.may_wait ⊎ Tr.Conn.PollConn.may_wait) (polling Tr.Conn.PollConn))
+        Tr.Conn.PollConn.may_wait (coding_of E.decoded E.encoded encoding.now) call.now stage.old
         stage.new machine.old machine.new result }
 {
     if machine.is_due(call) {
@@ -353,7 +368,9 @@ fn poll_drain<Tr: Network, R, W, E: Encoding, B: PassiveStreamBuilder<Tr::Conn>>
 where
     Tr: PollTransport<R, W>,
     Tr::Conn: PollConn<W>,
-    ensures polls { (at : Stage) × StartsTo (asking (built_by B.answers builder.now) (Tr.PollTransport.may_wait ⊎ Tr.Conn.PollConn.may_wait) (polling Tr.Conn.PollConn)) Tr.Conn.PollConn.may_wait (coding_of E.decoded E.encoded encoding.now) Call.Drain
+    ensures polls { (at : Stage) × StartsTo (asking (built_by B.answers builder.now)
+        (Tr.PollTransport.may_wait ⊎ Tr.Conn.PollConn.may_wait) (polling Tr.Conn.PollConn))
+        Tr.Conn.PollConn.may_wait (coding_of E.decoded E.encoded encoding.now) Call.Drain
         (Stage.At Turn.First) at machine.old machine.new result }
 {
     let mut stage = Stage::At(Turn::First);

@@ -14,6 +14,7 @@ ghost use Rattle.ftp_session.specs.Commands.{PlaysCommand};
 ghost use Rattle.ftp_session.specs.Trees.{feat_tree, mdtm_tree, mlst_tree, pwd_tree, size_tree};
 ghost use Rattle.ftp_calls.specs.Kinds.{GivesFeatures, GivesSize, GivesText, GivesTime};
 ghost use Rattle.ftp_dialogue.specs.Steps.Stages.{MayAnswer};
+ghost use Rattle.ftp_session.specs.Kept.{Keeps};
 
 use super::client::Session;
 use super::{Answer, Call};
@@ -34,12 +35,12 @@ where
     /// # Errors
     /// Those of a command and its reply; `UnexpectedResponse` where the reply has fewer than two quotes.
     pub fn pwd(&mut self, alloc: Global) -> FtpResult<String>
-        ensures plays { PlaysCommand (blocking Tr.Conn.Conn) (pwd_tree (chosen E.decoded E.encoded self.old.encoding.0))
-            self.old.mark self.new.mark self.old.machine self.new.machine (text_answer result) }
-        ensures counts { CountsFaults Tr.Conn.tells self.old.machine self.new.machine (text_answer result) }
-        ensures encoding { self.new.encoding ≡ self.old.encoding }
-        ensures builder { self.new.builder ≡ self.old.builder }
-        ensures former { self.new.former ≡ self.old.former }
+        ensures plays { PlaysCommand (blocking Tr.Conn.Conn)
+            (pwd_tree (chosen E.decoded E.encoded self.old.encoding.0)) self.old.mark self.new.mark
+            self.old.machine self.new.machine (text_answer result) }
+        ensures counts { CountsFaults Tr.Conn.tells self.old.machine self.new.machine
+            (text_answer result) }
+        ensures keeps { Keeps self.old self.new }
     {
         text(self.call(alloc, &Call::Pwd))
     }
@@ -50,12 +51,13 @@ where
     /// # Errors
     /// Those of a command and its reply; `BadResponse` where the second line is absent or empty.
     pub fn mlst(&mut self, alloc: Global, path: Option<&str>) -> FtpResult<String>
-        ensures plays { PlaysCommand (blocking Tr.Conn.Conn) (mlst_tree (chosen E.decoded E.encoded self.old.encoding.0) (option_map (λ text. text.now) path.entry))
-            self.old.mark self.new.mark self.old.machine self.new.machine (text_answer result) }
-        ensures counts { CountsFaults Tr.Conn.tells self.old.machine self.new.machine (text_answer result) }
-        ensures encoding { self.new.encoding ≡ self.old.encoding }
-        ensures builder { self.new.builder ≡ self.old.builder }
-        ensures former { self.new.former ≡ self.old.former }
+        ensures plays { PlaysCommand (blocking Tr.Conn.Conn)
+            (mlst_tree (chosen E.decoded E.encoded self.old.encoding.0)
+            (option_map (λ text. text.now) path.entry)) self.old.mark self.new.mark self.old.machine
+            self.new.machine (text_answer result) }
+        ensures counts { CountsFaults Tr.Conn.tells self.old.machine self.new.machine
+            (text_answer result) }
+        ensures keeps { Keeps self.old self.new }
     {
         match BorrowedCall::Mlst(path).owned(alloc) {
             Ok(call) => {
@@ -73,12 +75,12 @@ where
     /// # Errors
     /// Those of a command and its reply; `BadResponse` where the reply isn't UTF-8 or holds no date and time.
     pub fn mdtm(&mut self, alloc: Global, path: &str) -> FtpResult<DateTime>
-        ensures plays { PlaysCommand (blocking Tr.Conn.Conn) (mdtm_tree (chosen E.decoded E.encoded self.old.encoding.0) path.now)
-            self.old.mark self.new.mark self.old.machine self.new.machine (time_answer result) }
-        ensures counts { CountsFaults Tr.Conn.tells self.old.machine self.new.machine (time_answer result) }
-        ensures encoding { self.new.encoding ≡ self.old.encoding }
-        ensures builder { self.new.builder ≡ self.old.builder }
-        ensures former { self.new.former ≡ self.old.former }
+        ensures plays { PlaysCommand (blocking Tr.Conn.Conn)
+            (mdtm_tree (chosen E.decoded E.encoded self.old.encoding.0) path.now) self.old.mark
+            self.new.mark self.old.machine self.new.machine (time_answer result) }
+        ensures counts { CountsFaults Tr.Conn.tells self.old.machine self.new.machine
+            (time_answer result) }
+        ensures keeps { Keeps self.old self.new }
     {
         match BorrowedCall::Mdtm(path).owned(alloc) {
             Ok(call) => {
@@ -96,12 +98,12 @@ where
     /// Those of a command and its reply; `BadResponse` where the reply isn't UTF-8 or its last word is no number below
     /// 2^64.
     pub fn size(&mut self, alloc: Global, path: &str) -> FtpResult<usize>
-        ensures plays { PlaysCommand (blocking Tr.Conn.Conn) (size_tree (chosen E.decoded E.encoded self.old.encoding.0) path.now)
-            self.old.mark self.new.mark self.old.machine self.new.machine (size_answer result) }
-        ensures counts { CountsFaults Tr.Conn.tells self.old.machine self.new.machine (size_answer result) }
-        ensures encoding { self.new.encoding ≡ self.old.encoding }
-        ensures builder { self.new.builder ≡ self.old.builder }
-        ensures former { self.new.former ≡ self.old.former }
+        ensures plays { PlaysCommand (blocking Tr.Conn.Conn)
+            (size_tree (chosen E.decoded E.encoded self.old.encoding.0) path.now) self.old.mark
+            self.new.mark self.old.machine self.new.machine (size_answer result) }
+        ensures counts { CountsFaults Tr.Conn.tells self.old.machine self.new.machine
+            (size_answer result) }
+        ensures keeps { Keeps self.old self.new }
     {
         match BorrowedCall::Size(path).owned(alloc) {
             Ok(call) => {
@@ -121,12 +123,12 @@ where
     /// Those of a command and its reply; `BadResponse` where a line of the list
     /// doesn't begin with a space.
     pub fn feat(&mut self, alloc: Global) -> FtpResult<Features>
-        ensures plays { PlaysCommand (blocking Tr.Conn.Conn) (feat_tree (chosen E.decoded E.encoded self.old.encoding.0))
-            self.old.mark self.new.mark self.old.machine self.new.machine (features_answer result) }
-        ensures counts { CountsFaults Tr.Conn.tells self.old.machine self.new.machine (features_answer result) }
-        ensures encoding { self.new.encoding ≡ self.old.encoding }
-        ensures builder { self.new.builder ≡ self.old.builder }
-        ensures former { self.new.former ≡ self.old.former }
+        ensures plays { PlaysCommand (blocking Tr.Conn.Conn)
+            (feat_tree (chosen E.decoded E.encoded self.old.encoding.0)) self.old.mark self.new.mark
+            self.old.machine self.new.machine (features_answer result) }
+        ensures counts { CountsFaults Tr.Conn.tells self.old.machine self.new.machine
+            (features_answer result) }
+        ensures keeps { Keeps self.old self.new }
     {
         features(self.call(alloc, &Call::Feat))
     }

@@ -3,6 +3,7 @@
 ghost use Rattle.std.specs.Prelude.{◌≡◌};
 ghost use Rattle.futures.specs.Task.{IsArmed, Keeps};
 ghost use Rattle.ftp_transport.specs.declared.waiting.Waiting.TheVariants as waits;
+ghost use Rattle.ftp_session.specs.Kept.{Keeps};
 
 use super::client::Session;
 use ftp_base::encoding::Encoding;
@@ -26,9 +27,7 @@ where
     fn poll_ready(&mut self, cx: &mut Context<'_>) -> Waiting
         ensures same { self.new.machine ≡ self.old.machine }
         ensures mark { self.new.mark ≡ self.old.mark }
-        ensures encoding { self.new.encoding ≡ self.old.encoding }
-        ensures builder { self.new.builder ≡ self.old.builder }
-        ensures former { self.new.former ≡ self.old.former }
+        ensures keeps { Keeps self.old self.new }
         ensures registered { result ≡ waits.Registered → IsArmed cx.new }
         ensures kept { Keeps cx.old cx.new }
     {
@@ -39,9 +38,7 @@ where
     fn forget_request(&mut self)
         ensures same { self.new.machine ≡ self.old.machine }
         ensures mark { self.new.mark ≡ self.old.mark }
-        ensures encoding { self.new.encoding ≡ self.old.encoding }
-        ensures builder { self.new.builder ≡ self.old.builder }
-        ensures former { self.new.former ≡ self.old.former }
+        ensures keeps { Keeps self.old self.new }
     {
         self.machine.forget_request();
     }

@@ -13,6 +13,7 @@ ghost use Rattle.ftp_dialogue.specs.Link.{polling};
 ghost use Rattle.ftp_dialogue.specs.Promises.{GivesFault};
 ghost use Rattle.ftp_session.specs.Handed.{ReadsSeen};
 ghost use Rattle.ftp_session.specs.Polled.{IfFails};
+ghost use Rattle.ftp_session.specs.Kept.{Keeps};
 
 use super::client::Session;
 use super::looking::look;
@@ -40,15 +41,15 @@ impl<Tr: Network, K: Drop, E: Encoding, B: Drop> Session<Tr, K, E, B> {
     ) -> Poll<FtpResult<Response>>
     where
         Tr::Conn: PollConn<W>,
-        ensures reads { ReadsSeen (polling Tr.Conn.PollConn) (chosen E.decoded E.encoded self.old.encoding.0) (expecting expected.now)
-            self.old.mark self.new.mark self.old.machine self.new.machine result }
-        ensures counts { IfFails result (λ fault. CountsFaults Tr.Conn.tells self.old.machine self.new.machine (Fault fault)) }
+        ensures reads { ReadsSeen (polling Tr.Conn.PollConn)
+            (chosen E.decoded E.encoded self.old.encoding.0) (expecting expected.now) self.old.mark
+            self.new.mark self.old.machine self.new.machine result }
+        ensures counts { IfFails result (λ fault. CountsFaults Tr.Conn.tells self.old.machine
+            self.new.machine (Fault fault)) }
         ensures waits { result ≡ poll.Pending → Tr.Conn.may_wait }
         ensures fails { self.new.machine.channel.failed ≡ true →
             (self.old.machine.channel.failed ≡ true) ⊎ GivesFault result }
-        ensures encoding { self.new.encoding ≡ self.old.encoding }
-        ensures builder { self.new.builder ≡ self.old.builder }
-        ensures former { self.new.former ≡ self.old.former }
+        ensures keeps { Keeps self.old self.new }
     {
         look(&mut self.machine, &mut self.mark);
         self.machine.poll_read(alloc, &self.encoding, expected, w)
@@ -66,15 +67,15 @@ impl<Tr: Network, K: Drop, E: Encoding, B: Drop> Session<Tr, K, E, B> {
     ) -> Poll<FtpResult<Response>>
     where
         Tr::Conn: PollConn<W>,
-        ensures reads { ReadsSeen (polling Tr.Conn.PollConn) (chosen E.decoded E.encoded self.old.encoding.0) (expecting (expected ∷ []))
+        ensures reads { ReadsSeen (polling Tr.Conn.PollConn)
+            (chosen E.decoded E.encoded self.old.encoding.0) (expecting (expected ∷ []))
             self.old.mark self.new.mark self.old.machine self.new.machine result }
-        ensures counts { IfFails result (λ fault. CountsFaults Tr.Conn.tells self.old.machine self.new.machine (Fault fault)) }
+        ensures counts { IfFails result (λ fault. CountsFaults Tr.Conn.tells self.old.machine
+            self.new.machine (Fault fault)) }
         ensures waits { result ≡ poll.Pending → Tr.Conn.may_wait }
         ensures fails { self.new.machine.channel.failed ≡ true →
             (self.old.machine.channel.failed ≡ true) ⊎ GivesFault result }
-        ensures encoding { self.new.encoding ≡ self.old.encoding }
-        ensures builder { self.new.builder ≡ self.old.builder }
-        ensures former { self.new.former ≡ self.old.former }
+        ensures keeps { Keeps self.old self.new }
     {
         self.poll_read_response_in(alloc, &[expected], w)
     }

@@ -10,6 +10,7 @@ ghost use Rattle.ftp_dialogue.specs.Link.{blocking};
 ghost use Rattle.ftp_dialogue.specs.Promises.{failed_from};
 ghost use Rattle.ftp_session.specs.Counting.{CountsClearing, CountsSecuring};
 ghost use Rattle.ftp_session.specs.Securing.{Changes, ChangesThen, Clears, HandsOver, Protects, ProtectsData, Secures, TakesOff, is_beside, secured, unchanged};
+ghost use Rattle.ftp_session.specs.Kept.{Keeps};
 
 use super::Owed;
 use super::client::Session;
@@ -36,15 +37,14 @@ where
     /// session goes on where `AUTH` wasn't accepted. `SecureError` with the connector's text, or the errors of `PBSZ` and
     /// `PROT`: the session has failed then.
     pub fn into_secure(&mut self, alloc: Global, connector: K, domain: &str) -> FtpResult<()>
-        ensures secures { Secures (blocking Tr.Conn.Conn)
-            (HandsOver Tr.Conn Tr.Conn.told Tr.gives (Tr.answers connector domain.now)) (chosen E.decoded E.encoded self.old.encoding.0)
+        ensures secures { Secures (blocking Tr.Conn.Conn) (HandsOver Tr.Conn Tr.Conn.told Tr.gives
+            (Tr.answers connector domain.now)) (chosen E.decoded E.encoded self.old.encoding.0)
             self.old.mark self.new.mark self.old.machine self.new.machine result }
         ensures counts { IfErr result (λ fault. CountsSecuring (blocking Tr.Conn.Conn)
-            (HandsOver Tr.Conn Tr.Conn.told Tr.gives (Tr.answers connector domain.now)) (chosen E.decoded E.encoded self.old.encoding.0)
-            self.old.mark self.old.machine self.new.machine fault) }
-        ensures encoding { self.new.encoding ≡ self.old.encoding }
-        ensures builder { self.new.builder ≡ self.old.builder }
-        ensures former { self.new.former ≡ self.old.former }
+            (HandsOver Tr.Conn Tr.Conn.told Tr.gives (Tr.answers connector domain.now))
+            (chosen E.decoded E.encoded self.old.encoding.0) self.old.mark self.old.machine
+            self.new.machine fault) }
+        ensures keeps { Keeps self.old self.new }
     {
         look(&mut self.machine, &mut self.mark);
         if is_beside(&self.machine) {
@@ -75,13 +75,13 @@ where
     /// `DataConnectionAlreadyOpen` where a transfer is live, and nothing is sent. Those of a command and its reply: the
     /// session goes on then. The stream's error, where it can't give its connection back: the session has failed then.
     pub fn clear_command_channel(&mut self, alloc: Global) -> FtpResult<()>
-        ensures clears { Clears (blocking Tr.Conn.Conn) (TakesOff Tr.Conn Tr.Conn.told Tr.gives) (chosen E.decoded E.encoded self.old.encoding.0)
-            self.old.mark self.new.mark self.old.machine self.new.machine result }
-        ensures counts { IfErr result (λ fault. CountsClearing (blocking Tr.Conn.Conn) (TakesOff Tr.Conn Tr.Conn.told Tr.gives) (chosen E.decoded E.encoded self.old.encoding.0)
-            self.old.mark self.old.machine self.new.machine fault) }
-        ensures encoding { self.new.encoding ≡ self.old.encoding }
-        ensures builder { self.new.builder ≡ self.old.builder }
-        ensures former { self.new.former ≡ self.old.former }
+        ensures clears { Clears (blocking Tr.Conn.Conn) (TakesOff Tr.Conn Tr.Conn.told Tr.gives)
+            (chosen E.decoded E.encoded self.old.encoding.0) self.old.mark self.new.mark
+            self.old.machine self.new.machine result }
+        ensures counts { IfErr result (λ fault. CountsClearing (blocking Tr.Conn.Conn)
+            (TakesOff Tr.Conn Tr.Conn.told Tr.gives) (chosen E.decoded E.encoded
+            self.old.encoding.0) self.old.mark self.old.machine self.new.machine fault) }
+        ensures keeps { Keeps self.old self.new }
     {
         look(&mut self.machine, &mut self.mark);
         if is_beside(&self.machine) {
@@ -102,11 +102,10 @@ where
     /// Those of `change` and `protect`; the session has failed then.
     fn change_and_protect(&mut self, alloc: Global, connector: K, name: String) -> FtpResult<()>
         ensures changes { ChangesThen (blocking Tr.Conn.Conn)
-            (HandsOver Tr.Conn Tr.Conn.told Tr.gives (Tr.answers connector (string_bytes name))) (chosen E.decoded E.encoded self.old.encoding.0)
-            self.old.mark self.new.mark self.old.machine self.new.machine result }
-        ensures encoding { self.new.encoding ≡ self.old.encoding }
-        ensures builder { self.new.builder ≡ self.old.builder }
-        ensures former { self.new.former ≡ self.old.former }
+            (HandsOver Tr.Conn Tr.Conn.told Tr.gives (Tr.answers connector (string_bytes name)))
+            (chosen E.decoded E.encoded self.old.encoding.0) self.old.mark self.new.mark
+            self.old.machine self.new.machine result }
+        ensures keeps { Keeps self.old self.new }
     {
         match self.change(connector, name) {
             Ok(()) => self.protect(alloc),
@@ -119,12 +118,11 @@ where
     /// # Errors
     /// `SecureError` with the connector's text; the session has failed then, and its connection is gone.
     fn change(&mut self, connector: K, name: String) -> FtpResult<()>
-        ensures changes { Changes Tr.Conn.tells
-            (HandsOver Tr.Conn Tr.Conn.told Tr.gives (Tr.answers connector (string_bytes name))) secured self.old.machine self.new.machine result }
+        ensures changes { Changes Tr.Conn.tells (HandsOver Tr.Conn Tr.Conn.told Tr.gives
+            (Tr.answers connector (string_bytes name))) secured self.old.machine self.new.machine
+            result }
         ensures mark { self.new.mark ≡ self.old.mark }
-        ensures encoding { self.new.encoding ≡ self.old.encoding }
-        ensures builder { self.new.builder ≡ self.old.builder }
-        ensures former { self.new.former ≡ self.old.former }
+        ensures keeps { Keeps self.old self.new }
     {
         let plain = self.machine.begin_anew(Tr::gone());
         match Tr::put_under(&connector, name.as_str(), plain) {
@@ -147,11 +145,10 @@ where
     /// # Errors
     /// Those of a command and its reply; the session has failed then.
     fn protect(&mut self, alloc: Global) -> FtpResult<()>
-        ensures protects { Protects (blocking Tr.Conn.Conn) (chosen E.decoded E.encoded self.old.encoding.0)
-            self.old.mark self.new.mark self.old.machine self.new.machine result }
-        ensures encoding { self.new.encoding ≡ self.old.encoding }
-        ensures builder { self.new.builder ≡ self.old.builder }
-        ensures former { self.new.former ≡ self.old.former }
+        ensures protects { Protects (blocking Tr.Conn.Conn)
+            (chosen E.decoded E.encoded self.old.encoding.0) self.old.mark self.new.mark
+            self.old.machine self.new.machine result }
+        ensures keeps { Keeps self.old self.new }
     {
         match self.custom_command(alloc, "PBSZ 0", &[Status::CommandOk]) {
             Ok(reply) => {
@@ -167,11 +164,10 @@ where
     /// # Errors
     /// Those of a command and its reply; the session has failed then.
     fn protect_data(&mut self, alloc: Global) -> FtpResult<()>
-        ensures protects { ProtectsData (blocking Tr.Conn.Conn) (chosen E.decoded E.encoded self.old.encoding.0)
-            self.old.mark self.new.mark self.old.machine self.new.machine result }
-        ensures encoding { self.new.encoding ≡ self.old.encoding }
-        ensures builder { self.new.builder ≡ self.old.builder }
-        ensures former { self.new.former ≡ self.old.former }
+        ensures protects { ProtectsData (blocking Tr.Conn.Conn)
+            (chosen E.decoded E.encoded self.old.encoding.0) self.old.mark self.new.mark
+            self.old.machine self.new.machine result }
+        ensures keeps { Keeps self.old self.new }
     {
         match self.custom_command(alloc, "PROT P", &[Status::CommandOk]) {
             Ok(reply) => {
@@ -189,11 +185,10 @@ impl<Tr: SecureNetwork<K>, K: Drop, E: Encoding, B: Drop> Session<Tr, K, E, B> {
     /// # Errors
     /// The stream's error; the session has failed then, and its connection is gone.
     pub(super) fn uncover(&mut self) -> FtpResult<()>
-        ensures changes { Changes Tr.Conn.tells (TakesOff Tr.Conn Tr.Conn.told Tr.gives) unchanged self.old.machine self.new.machine result }
+        ensures changes { Changes Tr.Conn.tells (TakesOff Tr.Conn Tr.Conn.told Tr.gives) unchanged
+            self.old.machine self.new.machine result }
         ensures mark { self.new.mark ≡ self.old.mark }
-        ensures encoding { self.new.encoding ≡ self.old.encoding }
-        ensures builder { self.new.builder ≡ self.old.builder }
-        ensures former { self.new.former ≡ self.old.former }
+        ensures keeps { Keeps self.old self.new }
     {
         let stream = self.machine.begin_anew(Tr::gone());
         match Tr::take_off(stream) {
@@ -210,9 +205,7 @@ impl<Tr: SecureNetwork<K>, K: Drop, E: Encoding, B: Drop> Session<Tr, K, E, B> {
         ensures fails { result ≡ Err fault }
         ensures machine { self.new.machine ≡ failed_from self.old.machine }
         ensures mark { self.new.mark ≡ self.old.mark }
-        ensures encoding { self.new.encoding ≡ self.old.encoding }
-        ensures builder { self.new.builder ≡ self.old.builder }
-        ensures former { self.new.former ≡ self.old.former }
+        ensures keeps { Keeps self.old self.new }
     {
         self.machine.channel.fail();
         Err(fault)

@@ -7,6 +7,7 @@ ghost use Rattle.std.specs.Prelude.{◌≡◌, Some, true};
 ghost use Rattle.ftp_base.specs.declared.types.mode.Mode.TheVariants as modes;
 ghost use Rattle.ftp_dialogue.specs.Dialogue.{rule_by};
 ghost use Rattle.ftp_dialogue.specs.State.{with_settings};
+ghost use Rattle.ftp_session.specs.Kept.{Keeps};
 
 use super::client::Session;
 use ftp_base::encoding::Encoding;
@@ -20,10 +21,8 @@ impl<Tr: Network, K: Drop, E: Encoding, B: Drop> Session<Tr, K, E, B> {
     pub fn set_mode(&mut self, mode: Mode)
         ensures set { self.new.machine ≡
             with_settings (λ s. record s { mode = mode }) self.old.machine }
-        ensures encoding { self.new.encoding ≡ self.old.encoding }
+        ensures keeps { Keeps self.old self.new }
         ensures mark { self.new.mark ≡ self.old.mark }
-        ensures builder { self.new.builder ≡ self.old.builder }
-        ensures former { self.new.former ≡ self.old.former }
     {
         self.machine.state.settings.mode = mode;
     }
@@ -33,10 +32,8 @@ impl<Tr: Network, K: Drop, E: Encoding, B: Drop> Session<Tr, K, E, B> {
     pub fn set_passive_nat_workaround(&mut self, enabled: bool)
         ensures set { self.new.machine ≡
             with_settings (λ s. record s { passive_nat_workaround = enabled }) self.old.machine }
-        ensures encoding { self.new.encoding ≡ self.old.encoding }
+        ensures keeps { Keeps self.old self.new }
         ensures mark { self.new.mark ≡ self.old.mark }
-        ensures builder { self.new.builder ≡ self.old.builder }
-        ensures former { self.new.former ≡ self.old.former }
     {
         self.machine.state.settings.passive_nat_workaround = enabled;
     }
@@ -45,10 +42,8 @@ impl<Tr: Network, K: Drop, E: Encoding, B: Drop> Session<Tr, K, E, B> {
     pub fn set_active_peer_check(&mut self, check: ActivePeerCheck)
         ensures set { self.new.machine ≡
             with_settings (λ s. record s { active_peer_check = check }) self.old.machine }
-        ensures encoding { self.new.encoding ≡ self.old.encoding }
+        ensures keeps { Keeps self.old self.new }
         ensures mark { self.new.mark ≡ self.old.mark }
-        ensures builder { self.new.builder ≡ self.old.builder }
-        ensures former { self.new.former ≡ self.old.former }
     {
         self.machine.state.settings.active_peer_check = check;
     }
@@ -57,10 +52,8 @@ impl<Tr: Network, K: Drop, E: Encoding, B: Drop> Session<Tr, K, E, B> {
     pub fn set_active_deadline(&mut self, deadline: Duration)
         ensures set { self.new.machine ≡
             with_settings (λ s. record s { active_deadline = deadline }) self.old.machine }
-        ensures encoding { self.new.encoding ≡ self.old.encoding }
+        ensures keeps { Keeps self.old self.new }
         ensures mark { self.new.mark ≡ self.old.mark }
-        ensures builder { self.new.builder ≡ self.old.builder }
-        ensures former { self.new.former ≡ self.old.former }
     {
         self.machine.state.settings.active_deadline = deadline;
     }
@@ -70,18 +63,16 @@ impl<Tr: Network, K: Drop, E: Encoding, B: Drop> Session<Tr, K, E, B> {
     pub fn set_lenient_replies(&mut self, lenient: bool)
         ensures set { self.new.machine ≡
             with_settings (λ s. record s { reply_rule = rule_by lenient }) self.old.machine }
-        ensures encoding { self.new.encoding ≡ self.old.encoding }
+        ensures keeps { Keeps self.old self.new }
         ensures mark { self.new.mark ≡ self.old.mark }
-        ensures builder { self.new.builder ≡ self.old.builder }
-        ensures former { self.new.former ≡ self.old.former }
     {
         self.machine.state.settings.reply_rule = rule_by(lenient);
     }
 
     /// The session in the mode `Active`, which waits so long for a data connection.
     pub fn active_mode(mut self, deadline: Duration) -> Session<Tr, K, E, B>
-        ensures set { result.machine ≡
-            with_settings (λ s. record s { mode = modes.Active; active_deadline = deadline }) self.machine }
+        ensures set { result.machine ≡ with_settings (λ s. record s
+            { mode = modes.Active; active_deadline = deadline }) self.machine }
         ensures encoding { result.encoding ≡ self.encoding }
         ensures mark { result.mark ≡ self.mark }
         ensures former { result.former ≡ self.former }

@@ -18,8 +18,8 @@ loop-call-preserved c =
     let is : call ≡ get_or calls i call = c.call-item.is ∙ ap (λ l. get_or l i call) items in
     let taken = ap (λ l. Greet ∷ l) (ap (λ a. take i calls ++ a ∷ []) is ∙ sym (take_more calls i call less)) in
     record {
-      encoding = ap (λ e. e.0) c.in_ok-push_made-2.ensures.encoding ∙ c.loop-call.invariant.encoding;
-      builder = c.in_ok-push_made-2.ensures.builder ∙ c.loop-call.invariant.builder;
+      encoding = ap (λ e. e.0) c.in_ok-push_made-2.ensures.keeps.encoding ∙ c.loop-call.invariant.encoding;
+      builder = c.in_ok-push_made-2.ensures.keeps.builder ∙ c.loop-call.invariant.builder;
       mark = c.in_ok-push_made-2.ensures.mark;
       made = (
         begun,

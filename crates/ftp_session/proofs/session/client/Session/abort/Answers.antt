@@ -7,7 +7,7 @@ use Rattle.ftp_session.proofs.session.client.Session.abort.Goals as goal
 pub returns-in-Ok-clause-aborts : goal.returns-in-Ok-clause-aborts
 returns-in-Ok-clause-aborts g c =
     let takes = rw c.in-Ok.is at c.take_back.ensures.takes in
-    rw (c.ended.ensures, ← c.take_back.ensures.encoding) (taken_back _ _ _ c.args.transfer _ _ _ _ _ _ takes (made_plays _ _ _ _ _ _ c.call_alone.ensures.made))
+    rw (c.ended.ensures, ← c.take_back.ensures.keeps.encoding) (taken_back _ _ _ c.args.transfer _ _ _ _ _ _ takes (made_plays _ _ _ _ _ _ c.call_alone.ensures.made))
 
 pub returns-in-Err-clause-aborts : goal.returns-in-Err-clause-aborts
 returns-in-Err-clause-aborts g c =

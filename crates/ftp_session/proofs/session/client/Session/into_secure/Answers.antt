@@ -6,7 +6,7 @@ pub returns-in-Ok-custom_command-clause-secures : goal.returns-in-Ok-custom_comm
 returns-in-Ok-custom_command-clause-secures g c =
     let beside = rw (c.is_beside.ensures, c.look.ensures.seen) at c.if-is_beside.false in
     let plays = rw c.look.ensures.seen at c.in-Ok-custom_command.ensures.plays in
-    let changes = rw (c.in-Ok.ensures.ok, c.custom_command.ensures.encoding) at c.change_and_protect.ensures.changes in
+    let changes = rw (c.in-Ok.ensures.ok, c.custom_command.ensures.keeps.encoding) at c.change_and_protect.ensures.changes in
     record {
       seen = c.look.new.mark;
       looks = c.look.ensures.looks;

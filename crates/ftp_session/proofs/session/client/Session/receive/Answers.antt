@@ -6,6 +6,6 @@ returns-clause-receives g c = record {
   saved = c.save-saved.result;
   saves = c.save-saved.ensures.saves;
   ended = c.finish_whole.result;
-  ends = rw (c.note.ensures.encoding, c.note.ensures.mark, c.note.ensures.machine) at c.finish_whole.ensures.finishes;
+  ends = rw (c.note.ensures.keeps.encoding, c.note.ensures.mark, c.note.ensures.machine) at c.finish_whole.ensures.finishes;
   is = c.first_of.ensures;
 }

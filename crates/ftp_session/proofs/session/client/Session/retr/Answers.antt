@@ -7,8 +7,8 @@ use Rattle.ftp_session.proofs.session.client.Session.retr.Goals as goal
 pub returns-in-Ok-clause-retrieves : goal.returns-in-Ok-clause-retrieves
 returns-in-Ok-clause-retrieves g c =
     let opened = rw c.in-Ok.is at c.retr_as_stream.ensures.opens in
-    let ends_it = rw (c.note.ensures.encoding, c.note.ensures.mark, c.note.ensures.machine, c.retr_as_stream.ensures.encoding) at c.finish_whole.ensures.finishes in
-    rw (c.finish_whole.ensures.former, c.note.ensures.former) (retrieves_on _ _ _ _ _ c.retr_as_stream.new.self.mark _ _ c.retr_as_stream.new.self.former _ c.retr_as_stream.new.self.machine _ c.in-Ok.transfer g.F.DownloadReader.reads c.read-read.new.transfer c.read-read.result c.first_of.result c.finish_whole.result opened c.read-read.ensures ends_it c.first_of.ensures)
+    let ends_it = rw (c.note.ensures.keeps.encoding, c.note.ensures.mark, c.note.ensures.machine, c.retr_as_stream.ensures.keeps.encoding) at c.finish_whole.ensures.finishes in
+    rw (c.finish_whole.ensures.keeps.former, c.note.ensures.keeps.former) (retrieves_on _ _ _ _ _ c.retr_as_stream.new.self.mark _ _ c.retr_as_stream.new.self.former _ c.retr_as_stream.new.self.machine _ c.in-Ok.transfer g.F.DownloadReader.reads c.read-read.new.transfer c.read-read.result c.first_of.result c.finish_whole.result opened c.read-read.ensures ends_it c.first_of.ensures)
 
 pub returns-in-Ok-clause-counts : goal.returns-in-Ok-clause-counts
 returns-in-Ok-clause-counts g c = download_counts _ _ (λ h. h) _ (RetrAsStream c.args.path.now) (refl, refl, refl) tt _ _ _ _ _ _ _ _ (returns-in-Ok-clause-retrieves g c)

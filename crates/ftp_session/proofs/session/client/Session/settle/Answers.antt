@@ -11,7 +11,7 @@ settle-requires g c = record { left = begins_left c.args.left.now c.args.self.no
 pub returns-clause-settles : goal.returns-clause-settles
 returns-clause-settles g c =
     let begins = rw (c.in-Ok.is, c.if-not-owed.false) at c.begin_settle.ensures.begins in
-    let made = rw c.begin_settle.ensures.encoding at c.settle.ensures.made in
+    let made = rw c.begin_settle.ensures.keeps.encoding at c.settle.ensures.made in
     rw (drain_answer_is c.settle.result) (settles_by _ _ c.args.left.now c.args.self.now.machine c.begin_settle.new.session.machine _ _ (Ok true) begins (plays_in_step _ _ _ _ _ _ made))
 
 pub returns-clause-counts : goal.returns-clause-counts

@@ -6,7 +6,7 @@ returns-in-Ok-clause-stores g c = record {
   sent = c.copy-copied.new.transfer;
   copied = Ok c.in-Ok.count;
   copies = search rules;
-  ends = (c.finish_whole.result, rw (c.note.ensures.encoding, c.note.ensures.mark, c.note.ensures.machine) at c.finish_whole.ensures.finishes, c.unless_failed.ensures);
+  ends = (c.finish_whole.result, rw (c.note.ensures.keeps.encoding, c.note.ensures.mark, c.note.ensures.machine) at c.finish_whole.ensures.finishes, c.unless_failed.ensures);
 }
 
 pub returns-in-Err-clause-stores : goal.returns-in-Err-clause-stores

@@ -7,8 +7,8 @@ use Rattle.ftp_session.proofs.session.client.Session.write_to.Goals as goal
 pub returns-in-Ok-clause-writes : goal.returns-in-Ok-clause-writes
 returns-in-Ok-clause-writes g c =
     let opened = rw c.in-Ok.is at c.retr_as_stream.ensures.opens in
-    let receives = rw c.retr_as_stream.ensures.encoding at c.receive.ensures.receives in
-    rw c.receive.ensures.former (writes_on _ _ _ _ _ c.retr_as_stream.new.self.mark _ _ c.retr_as_stream.new.self.former _ c.retr_as_stream.new.self.machine _ c.in-Ok.transfer _ _ _ opened receives)
+    let receives = rw c.retr_as_stream.ensures.keeps.encoding at c.receive.ensures.receives in
+    rw c.receive.ensures.keeps.former (writes_on _ _ _ _ _ c.retr_as_stream.new.self.mark _ _ c.retr_as_stream.new.self.former _ c.retr_as_stream.new.self.machine _ c.in-Ok.transfer _ _ _ opened receives)
 
 pub returns-in-Ok-clause-counts : goal.returns-in-Ok-clause-counts
 returns-in-Ok-clause-counts g c = saving_counts _ _ (λ h. h) _ (RetrAsStream c.args.path.now) (refl, refl, refl) tt _ _ _ _ _ _ _ _ _ (returns-in-Ok-clause-writes g c)
