@@ -1,22 +1,27 @@
 -- Each call of a list has the cause of its error in itself.
 use Rattle.std.proofs.lemmas.List.{drop_more}
 use Rattle.std.proofs.Math.ListN.{drop_of_length-le}
-use Rattle.std.proofs.Common.{◌≡◌, ◌+◌, ◌<◌, ◌≤◌, ℕ, Bool, true, drop, get_or, length, List, [], ◌∷◌, ◌++◌, inl, inr, ◌⊎◌, refl, ap, sym, ◌∙◌, subst, append_assoc, append-nil, false}
+use Rattle.std.proofs.Common.{◌≡◌, ◌+◌, ◌<◌, ◌≤◌, ℕ, Bool, true, drop, get_or, length, List, [], ◌∷◌, ◌++◌, Some, inl, inr, ◌⊎◌, refl, ap, sym, ◌∙◌, subst, append_assoc, append-nil, false}
 use Rattle.std.specs.declared.io.ErrorKind.{ErrorKind}
 use Rattle.std.specs.declared.io.ErrorKind.TheVariants.{WriteZero}
-use Rattle.ftp_base.specs.declared.types.fault.ConnectionError.TheVariants as cause
+use Rattle.ftp_base.specs.declared.types.fault.FtpError.{FtpError}
 use Rattle.ftp_base.specs.declared.types.fault.FtpError.TheVariants as faults
 use Rattle.ftp_calls.specs.declared.call.Answer.{Answer}
 use Rattle.ftp_calls.specs.declared.call.Call.{Call}
 use Rattle.ftp_dialogue.specs.Coding.{Coding}
 use Rattle.ftp_dialogue.specs.Counted.{CountsFailure, IsGivenBeside}
+use Rattle.ftp_dialogue.specs.Dialogue.{dialogue}
 use Rattle.ftp_dialogue.specs.Link.{Link}
+use Rattle.ftp_dialogue.specs.Promises.{PlaysAlone}
+use Rattle.ftp_dialogue.specs.Sound.{cannot_open}
 use Rattle.ftp_dialogue.specs.CatchingUp.{PlaysInStep}
 use Rattle.ftp_dialogue.specs.State.{SessionValue}
+use Rattle.ftp_dialogue.specs.declared.state.State.{State}
 use Rattle.ftp_session.specs.Calls.{sends}
-use Rattle.ftp_session.proofs.Causes.{Causes, plays_causes}
-use Rattle.ftp_session.proofs.Reasons.{step_causes}
-use Rattle.ftp_session.proofs.EveryCall.{Short, every_backed, took_no_more}
+use Rattle.ftp_session.proofs.Backed.{Backed, io, took_no_more}
+use Rattle.ftp_session.proofs.EveryStage.{Spent, begun_backed}
+use Rattle.ftp_session.proofs.Grounds.{Grounds, Why, alone_grounds, plays_grounds, step_grounds}
+use Rattle.ftp_session.proofs.Reasons.{spent_no_io}
 use Rattle.ftp_runs.specs.Counting.{CountsEach, HasCause}
 use Rattle.ftp_runs.specs.Following.{MadeAmong}
 use Rattle.ftp_runs.specs.Runs.{PlaysAmong}
@@ -24,28 +29,37 @@ use Rattle.ftp_runs.proofs.InStep.{among_plays}
 
 -- A call
 
-pub unlike_failed : (uploads : Bool) → Short uploads faults.SessionFailed → ⊥
-unlike_failed uploads short = (let wrong : faults.SessionFailed ≡ took_no_more = short.1 in cc)
+-- that its transfers are spent is a reason, and that the data connection of an upload of its own takes no more bytes
+abbrev ShortOr : Call → State → FtpError → Type 0
+ShortOr called state fault = Spent state fault ⊎ ((sends called ≡ true) × (fault ≡ took_no_more))
 
-wrote_none : (uploads : Bool) (kind : ErrorKind) → Short uploads (faults.ConnectionError (cause.Io kind)) → (uploads ≡ true) × (kind ≡ WriteZero)
-wrote_none uploads kind short = (short.0, let same : faults.ConnectionError (cause.Io kind) ≡ took_no_more = short.1 in cc)
+backed : (coding : Coding) (called : Call) (state : State) → Backed (Unit {0}) (ShortOr called) (dialogue coding called state)
+backed coding called state = begun_backed (Unit {0}) called (λ carries. tt) (ShortOr called) (λ is s. inr (is, refl)) coding state (λ is fault s spent leaf. inl spent)
 
-has_cause : (link : Link) (called : Call) (old new : SessionValue) (answer : Answer) → Causes link (Short (sends called)) old new answer → HasCause link called old new answer
-has_cause link called old new answer causes = record { counted = λ kind is h. go kind (causes.counted kind is h); had_failed = causes.had_failed }
+has_cause : (link : Link) (called : Call) (old new : SessionValue) (answer : Answer) → Grounds link (Unit {0}) (ShortOr called) old new answer → HasCause link called old new answer
+has_cause link called old new answer grounds = record { counted = λ kind is h. go kind (grounds (io kind) is tt) h; had_failed = λ is. had (grounds faults.SessionFailed is tt) }
   where
-    go : (kind : ErrorKind) → CountsFailure old.channel.told new.channel.told ⊎ IsGivenBeside link (faults.ConnectionError (cause.Io kind)) old.net new.net ⊎ Short (sends called) (faults.ConnectionError (cause.Io kind)) → CountsFailure old.channel.told new.channel.told ⊎ IsGivenBeside link (faults.ConnectionError (cause.Io kind)) old.net new.net ⊎ ((sends called ≡ true) × (kind ≡ WriteZero))
-    go kind (inl counted) = inl counted
-    go kind (inr (inl gives)) = inr (inl gives)
-    go kind (inr (inr short)) = inr (inr (wrote_none (sends called) kind short))
+    go : (kind : ErrorKind) → Why link (Unit {0}) (ShortOr called) old new (io kind) → link.tells → CountsFailure old.channel.told new.channel.told ⊎ IsGivenBeside link (io kind) old.net new.net ⊎ ((sends called ≡ true) × (kind ≡ WriteZero))
+    go kind (inl met) h = inl (met h)
+    go kind (inr (inl (inl spent))) h = absurd (spent_no_io new.state kind spent)
+    go kind (inr (inl (inr short))) h = inr (inr (short.0, let same : io kind ≡ took_no_more = short.1 in cc))
+    go kind (inr (inr gives)) h = inr (inl gives.1)
+
+    had : Why link (Unit {0}) (ShortOr called) old new faults.SessionFailed → (old.channel.failed ≡ true) ⊎ (cannot_open new.state.counts ≡ Some faults.SessionFailed) ⊎ IsGivenBeside link faults.SessionFailed old.net new.net
+    had (inl failed) = inl failed
+    had (inr (inl (inl spent))) = inr (inl spent)
+    had (inr (inl (inr short))) = (let wrong : faults.SessionFailed ≡ took_no_more = short.1 in cc)
+    had (inr (inr gives)) = inr (inr gives.1)
+
+pub alone_cause : (link : Link) (coding : Coding) (called : Call) (old new : SessionValue) (answer : Answer) → PlaysAlone link coding called old new answer → HasCause link called old new answer
+alone_cause link coding called old new answer plays = has_cause link called old new answer (alone_grounds link (Unit {0}) (ShortOr called) coding called old new answer (backed coding called) plays)
 
 pub call_causes : (link : Link) (coding : Coding) (called : Call) (old new : SessionValue) (answer : Answer) → PlaysInStep link coding called old new answer → HasCause link called old new answer
-call_causes link coding called old new answer plays =
-    has_cause link called old new answer (step_causes link (Short (sends called)) (unlike_failed (sends called)) coding called old new answer (λ state. every_backed coding state called) plays)
+call_causes link coding called old new answer plays = has_cause link called old new answer (step_grounds link (Unit {0}) (ShortOr called) coding called old new answer (backed coding called) plays)
 
 among_causes : (due : Bool) (link : Link) (coding : Coding) (called : Call) (old new : SessionValue) (answer : Answer) → PlaysAmong due link coding called old new answer → HasCause link called old new answer
 among_causes true link coding called old new answer step = call_causes link coding called old new answer step
-among_causes false link coding called old new answer plays =
-    has_cause link called old new answer (plays_causes link (Short (sends called)) (unlike_failed (sends called)) coding called old new answer (λ state. every_backed coding state called) plays)
+among_causes false link coding called old new answer plays = has_cause link called old new answer (plays_grounds link (Unit {0}) (ShortOr called) coding called old new answer (backed coding called) plays)
 
 -- A list
 

@@ -2,6 +2,7 @@
 use Rattle.std.proofs.lemmas.List.{take_all, take_more}
 use Rattle.std.proofs.Common.{◌≡◌, ◌⊎◌, ◌+◌, ◌<◌, ◌≤◌, ℕ, Bool, true, false, Option, Some, None, is_none, List, [], ◌∷◌, ◌++◌, length, take, get_or, inl, inr, refl, ap, sym, ◌∙◌, subst, append_assoc, append-nil}
 use Rattle.std.specs.declared.io.ErrorKind.{ErrorKind}
+use Rattle.std.specs.declared.io.ErrorKind.TheVariants.{WriteZero}
 use Rattle.futures.specs.declared.task.Poll.{Poll as Polled}
 use Rattle.futures.specs.declared.task.Poll.TheVariants.{Ready, Pending}
 use Rattle.ftp_base.specs.declared.types.fault.ConnectionError.TheVariants as cause
@@ -36,14 +37,13 @@ use Rattle.ftp_dialogue.proofs.Sorts.{stage_no_local}
 use Rattle.ftp_session.specs.Calls.{sends}
 use Rattle.ftp_session.specs.PollCauses.{CausesAnswer, CausesPoll, TakesNoMore, kept_error}
 use Rattle.ftp_session.specs.Polled.{PollsNext as PollsSession, PollsNextIf as PollsSessionIf, ThenStarts, ThenStartsIf}
-use Rattle.ftp_session.proofs.Causes.{Causes, Happens, alone_causes, given_before}
-use Rattle.ftp_session.proofs.EveryCall.{Short, every_backed}
-use Rattle.ftp_session.proofs.PollCauses.{caused_in_step, fault_caused, light_caused, next_caused}
-use Rattle.ftp_runs.specs.Counting.{CausesEvent, CausesHere, CausesPolled, CountsEvent, CountsEvents, NoFewer, kept_in, under_way_after}
+use Rattle.ftp_session.proofs.Calm.{Happens, given_before}
+use Rattle.ftp_session.proofs.PollGrounds.{caused_in_step, fault_caused, light_caused, next_caused}
+use Rattle.ftp_runs.specs.Counting.{CausesEvent, CausesHere, CausesPolled, CountsEvent, CountsEvents, HasCause, NoFewer, kept_in, under_way_after}
 use Rattle.ftp_runs.specs.Following.{FailedStays, Grows, HasLeftIf, Passes, PollsHere, PollsNext, PollsNextIf, Starts, ThenPolls, ThenPollsIf, given_answer, parts_here}
 use Rattle.ftp_runs.specs.Scripted.{LeavesHeldIf}
 use Rattle.ftp_runs.specs.declared.events.Course.{Course}
-use Rattle.ftp_runs.proofs.CallCauses.{unlike_failed}
+use Rattle.ftp_runs.proofs.CallCauses.{alone_cause}
 use Rattle.ftp_runs.proofs.CaughtUp.{up_went}
 use Rattle.ftp_runs.proofs.Dropped.{passes_grow}
 use Rattle.ftp_runs.proofs.Leaving.{left_apart, over_happens}
@@ -64,10 +64,10 @@ module _ (builds : Builds) (coding : Coding) (call : Call) (stage : Stage) where
   mem = over_memory builds
 
   module _ (local : is_local call ≡ true) (kept : Option FtpError) (v w : SessionValue) (answer : Answer) where
-    carried_causes : Causes mem (Short (sends call)) v w answer → CausesAnswer mem call kept v w answer
+    carried_causes : HasCause mem call v w answer → CausesAnswer mem call kept v w answer
     carried_causes causes = record { counted = λ kind is h. counted kind (causes.counted kind is h); had_failed = λ is. had (causes.had_failed is) }
       where
-        counted : (kind : ErrorKind) → CountsFailure v.channel.told w.channel.told ⊎ IsGivenBeside mem (faults.ConnectionError (cause.Io kind)) v.net w.net ⊎ Short (sends call) (faults.ConnectionError (cause.Io kind)) → CountsFailure v.channel.told w.channel.told ⊎ IsGivenBeside mem (faults.ConnectionError (cause.Io kind)) v.net w.net ⊎ (kept ≡ Some (faults.ConnectionError (cause.Io kind))) ⊎ TakesNoMore call kind
+        counted : (kind : ErrorKind) → CountsFailure v.channel.told w.channel.told ⊎ IsGivenBeside mem (faults.ConnectionError (cause.Io kind)) v.net w.net ⊎ ((sends call ≡ true) × (kind ≡ WriteZero)) → CountsFailure v.channel.told w.channel.told ⊎ IsGivenBeside mem (faults.ConnectionError (cause.Io kind)) v.net w.net ⊎ (kept ≡ Some (faults.ConnectionError (cause.Io kind))) ⊎ TakesNoMore call kind
         counted kind (inl since) = inl since
         counted kind (inr (inl gives)) = inr (inl gives)
         counted kind (inr (inr short)) = (let clash : true ≡ false = sym short.0 ∙ local_sends_none call local in cc)
@@ -78,7 +78,7 @@ module _ (builds : Builds) (coding : Coding) (call : Call) (stage : Stage) where
         had (inr (inr gives)) = inr (inr (inl gives))
 
     carried_caused : CarriesOut (Unit {0}) call v w answer → CausesAnswer mem call kept v w answer
-    carried_caused carries = carried_causes (alone_causes mem (Short (sends call)) (unlike_failed (sends call)) coding call v w answer (λ state. every_backed coding state call) (made_plays mem coding call v w answer (carried_made mem coding call v w answer carries)))
+    carried_caused carries = carried_causes (alone_cause mem coding call v w answer (made_plays mem coding call v w answer (carried_made mem coding call v w answer carries)))
 
     carried_no_fewer : CarriesOut (Unit {0}) call v w answer → NoFewer v.channel.told w.channel.told
     carried_no_fewer (inl refused) = as_many v.channel.told w.channel.told (ap (λ c. c.told.failures) (refused_apart (refusal_of call v) (Unit {0}) call v w answer refused))

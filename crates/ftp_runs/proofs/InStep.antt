@@ -21,7 +21,7 @@ use Rattle.futures.specs.declared.task.Poll.TheVariants.{Ready}
 use Rattle.ftp_base.specs.declared.types.fault.FtpError.{FtpError}
 use Rattle.ftp_dialogue.specs.CatchingUp.{CatchesUp, InStepIf, MakesThen, PlaysInStep, is_behind, is_plain_read, opens_beside}
 use Rattle.ftp_dialogue.proofs.CatchingUpLemmas.{plays_in_step}
-use Rattle.ftp_session.proofs.CaughtUp.{up_caught}
+use Rattle.ftp_session.proofs.Grounds.{up_caught}
 use Rattle.ftp_runs.proofs.Running.{Reached, RunsSoFar, before_all-Finished, next_answer, run-nil}
 
 all_snoc : (calls : List Call) (first : List Answer) (call : Call) (answer : Answer) → AllRefused calls first → (is_local call ≡ false → IsRefusal answer) → AllRefused (calls ++ call ∷ []) (first ++ answer ∷ [])
@@ -148,11 +148,11 @@ step_fails_with link coding call old new answer made = go (is_behind call old) m
     then middle (Some fault) ends up stops =
         let P : Answer → Type 0 = λ a. FailsWith old new (a ∷ []) in
         subst P (sym stops.0) (λ failed. inr (inl tt))
-    then middle None true up stops = λ failed. inl ((up_caught (unasked link) (is_plain_read call) old middle None up).1 (ap (λ v. v.channel.failed) (sym stops.1) ∙ failed))
+    then middle None true up stops = λ failed. inl ((up_caught (unasked link) (is_plain_read call) old middle None up).going (ap (λ v. v.channel.failed) (sym stops.1) ∙ failed))
     then middle None false up more = λ failed. on (drained_fails link coding call middle new answer more failed)
       where
         on : (middle.channel.failed ≡ true) ⊎ HasFault (answer ∷ []) → (old.channel.failed ≡ true) ⊎ HasFault (answer ∷ [])
-        on (inl was) = inl ((up_caught (unasked link) (is_plain_read call) old middle None up).1 was)
+        on (inl was) = inl ((up_caught (unasked link) (is_plain_read call) old middle None up).going was)
         on (inr fault) = inr fault
 
     go : (b : Bool) → InStepIf b (unasked link) (is_plain_read call) (drains call) (MadeDrained link coding call) old new answer → FailsWith old new (answer ∷ [])

@@ -1,5 +1,5 @@
 -- Failures that are counted while a session comes to its connection.
-use Rattle.std.proofs.Common.{◌≡◌, true, false, List, [], ◌∷◌, Result, Ok, Err, inl, inr, ap, sym, ◌∙◌, subst}
+use Rattle.std.proofs.Common.{◌≡◌, true, false, List, [], ◌∷◌, Result, Ok, Err, inl, inr, refl, ap, sym, ◌∙◌, subst}
 use Rattle.std.specs.Prelude.{IfErr, MatchResult}
 use Rattle.std.specs.declared.io.ErrorKind.{ErrorKind}
 use Rattle.ftp_base.specs.declared.types.fault.ConnectionError.{ConnectionError}
@@ -25,7 +25,7 @@ use Rattle.ftp_session.specs.Calls.{Connects, FailsToConnect}
 use Rattle.ftp_session.specs.Connecting.{ConnectsBy, FailsToConnectBy, IsConnected, NoneConnects}
 use Rattle.ftp_session.specs.Counting.{CountsConnecting, CountsConnectingUnder, CountsInGreeting, EndsRefused, FailsAtFirst, FailsInGreeting, IsRefusedAtLast}
 use Rattle.ftp_session.specs.Implicit.{FailsToConnectUnder, FailsUnder}
-use Rattle.ftp_session.proofs.Failures.{alone_counts}
+use Rattle.ftp_session.proofs.Reasons.{alone_counts}
 
 -- what is known of an error is known where one is returned
 pub on_error : {S : Type 0} (P : S → Type 0) (Q R : FtpError → Type 0) (result : Result S FtpError) → MatchResult result P Q → ((fault : FtpError) → Q fault → R fault) → IfErr result R
@@ -43,7 +43,7 @@ memory_failed fault memory is = (let both : faults.OutOfMemory ≡ faults.Sessio
 
 module _ (link : Link) (coding : Coding) (rule : ReplyRule) (told : Told) (net : Net) (fault : FtpError) where
   greeted : (new : SessionValue) (connects : Connects link coding rule told net new (Err fault)) → CountsFaults link.tells connects.old new (Fault fault)
-  greeted new connects = alone_counts link coding Greet connects.old new (Fault fault) (tt, tt) connects.greets
+  greeted new connects = alone_counts link coding Greet connects.old new (Fault fault) (refl, refl, refl) connects.greets
 
   fails_in_greeting : (new : SessionValue) (kind : ErrorKind) → fault ≡ faults.ConnectionError (cause.Io kind) → link.tells → Connects link coding rule told net new (Err fault) → FailsInGreeting link coding rule told net fault
   fails_in_greeting new kind is h connects =

@@ -1,16 +1,19 @@
 -- What is left of a call at each of its stages: each error of it has its reason, but for one that the stage keeps, and for
 -- that of a whole file whose data connection takes no more bytes.
-use Rattle.std.proofs.Common.{◌≡◌, ℕ, Bool, true, false, cond, eqb, [], Option, Some, None, Result, Ok, Err, inl, inr, ◌⊎◌, refl, ap, sym, ◌∙◌, subst}
+use Rattle.std.proofs.Common.{◌≡◌, ℕ, zero, suc, Bool, true, false, cond, eqb, [], Option, Some, None, Result, Ok, Err, inl, inr, ◌⊎◌, refl, ap, sym, ◌∙◌, subst}
 use Rattle.std.specs.declared.io.ErrorKind.{ErrorKind}
 use Rattle.ftp_base.specs.Status.{code_of}
 use Rattle.ftp_base.specs.declared.command.Command.TheVariants as command
-use Rattle.ftp_base.specs.declared.types.fault.ConnectionError.TheVariants as cause
+use Rattle.ftp_base.specs.declared.status.Status.TheVariants.{NotAvailable, TransferAborted}
 use Rattle.ftp_base.specs.declared.types.fault.FtpError.{FtpError}
 use Rattle.ftp_base.specs.declared.types.fault.FtpError.TheVariants as faults
 use Rattle.ftp_base.specs.declared.types.mode.Mode.TheVariants as mode
 use Rattle.ftp_base.specs.declared.types.reply.Response.{Response}
 use Rattle.ftp_calls.specs.Addresses.{passive_address_of, extended_port_of}
-use Rattle.ftp_calls.specs.Exchanges.{Movements, aborts, ending_of, finishes, negotiates, own_row, row_of}
+use Rattle.ftp_calls.specs.Answers.{features_in, path_of, second_line_of, size_of}
+use Rattle.ftp_calls.specs.Exchanges.{Movements, aborts, ending_of, finishes, is_local, negotiates, own_row, row_of}
+use Rattle.ftp_calls.specs.Kinds.{IsPlain}
+use Rattle.ftp_calls.specs.Times.{time_of}
 use Rattle.ftp_calls.specs.declared.call.Answer.{Answer}
 use Rattle.ftp_calls.specs.declared.call.Answer.TheVariants.{Fault}
 use Rattle.ftp_calls.specs.declared.call.Answer.TheVariants as answer
@@ -25,11 +28,11 @@ use Rattle.ftp_calls.specs.declared.exchange.Task.TheVariants as task
 use Rattle.ftp_calls.specs.declared.exchange.Turn.{Turn}
 use Rattle.ftp_calls.specs.declared.exchange.Turn.TheVariants.{First, Second, Passive, ExtendedPassive, Active, Restart, Closed, Aborted}
 use Rattle.ftp_dialogue.specs.Coding.{Coding}
-use Rattle.ftp_dialogue.specs.Dialogue.{Tree, Leaf, aborting, accepted, breaking_off, closing, closing_data, concluded, dialogue, doing, from_turn, last_turn, later, most_passed_over, most_reads, negotiating, negotiating_unless, opened_answer, opened_from, performing, restart_turn, resyncing, securing, seeking, strangers, told_of_close, with_left, with_transfer}
+use Rattle.ftp_dialogue.specs.Dialogue.{Tree, Leaf, aborting, accepted, after_fault_of, answer_to_fault, breaking_off, closing, closing_data, concluded, dialogue, doing, features_answer, from_turn, last_turn, later, line_answer, most_passed_over, most_reads, negotiating, negotiating_unless, opened_answer, opened_from, passing_over, path_answer, performing, restart_turn, resyncing, saying, securing, seeking, size_answer, sought, strangers, time_answer, told_of_close, with_aborted, with_finished, with_left, with_transfer}
 use Rattle.ftp_dialogue.specs.Promises.{IsFault, answer_of}
-use Rattle.ftp_dialogue.specs.Sound.{cannot_open}
+use Rattle.ftp_dialogue.specs.Sound.{cannot_open, some_live}
 use Rattle.ftp_dialogue.specs.Steps.Polls.{StageIn, entered_tree, is_first}
-use Rattle.ftp_dialogue.specs.Steps.Stages.{AskingOf, FetchOf, MayGive, MayPerform, OpeningOf, StageOf, WayOf, abort_left, asking_of, awaited, fetch_left, opened_by, remaining, resync_left, way_of}
+use Rattle.ftp_dialogue.specs.Steps.Stages.{AskingOf, FetchOf, MayGive, MayPerform, OpeningOf, StageOf, TurnOf, WayOf, abort_left, asking_of, awaited, fetch_left, opened_by, remaining, resync_left, way_of}
 use Rattle.ftp_dialogue.specs.Within.{IsOfBytes, MayHear}
 use Rattle.ftp_dialogue.specs.declared.model.NetOutcome.{NetOutcome}
 use Rattle.ftp_dialogue.specs.declared.stage.Aborting.{Aborting as Abort}
@@ -48,344 +51,386 @@ use Rattle.ftp_dialogue.specs.declared.stage.Stage.TheVariants.{At, Saying, Hear
 use Rattle.ftp_dialogue.specs.declared.stage.Transferring.{Transferring as Fetched}
 use Rattle.ftp_dialogue.specs.declared.stage.Transferring.TheVariants as fetch
 use Rattle.ftp_dialogue.specs.declared.state.State.{State}
+use Rattle.ftp_dialogue.proofs.Sorts.{aborts_finish}
 use Rattle.ftp_session.specs.Calls.{sends}
 use Rattle.ftp_session.specs.PollCauses.{error_of, kept_by, kept_error}
-use Rattle.ftp_session.proofs.Backed.{Backed, Or, Reasoned, accepting_backed, close_given, closing_fetch_backed, connecting_backed, ending_fetch_backed, finished_heard, gathering_backed, light_fault, line_backed, negotiating_backed, no_error, opening_backed, opening_data_backed, peer_backed, port_backed, quiet_backed, restart_backed, secured_backed, securing_backed, stopped_heard, told_backed}
-use Rattle.ftp_session.proofs.EveryCall.{carried_backed, sending_backed, storing_backed, took_no_more}
-use Rattle.ftp_session.proofs.Quiet.{IsQuietEnding, accepted_quiet, clash, faulty_quiet, of_bytes, row_quiet, seeking_quiet}
+use Rattle.ftp_session.proofs.Backed.{Backed, IsGrave, IsLight, Or, Reasoned, accepting_backed, carried_backed, clash, close_given, closing_fetch_backed, connecting_backed, ending_fetch_backed, gathering_backed, io, light, light_fault, line_backed, negotiating_backed, of_bytes, one_light, opening_backed, opening_data_backed, peer_backed, port_backed, restart_backed, secured_backed, securing_backed, sending_backed, storing_backed, told_backed, took_no_more}
 
 -- Endings
 
--- what an ending needs: a reason for the error that it keeps, and for that of a data connection that takes no more bytes
-abbrev Needs : (State → FtpError → Type 0) → Ending → Type 0
-Needs May (ending.Performs (task.Store bytes)) = (state : State) → May state took_no_more
-Needs May (ending.Finishes (Some kind)) = (state : State) → May state (faults.ConnectionError (cause.Io kind))
-Needs May other = Unit {0}
+-- what an ending needs: leave to ask for a data connection, a reason for the error that it keeps, and one for that of a data
+-- connection that takes no more bytes
+abbrev Needs : Type 0 → (State → FtpError → Type 0) → Ending → Type 0
+Needs Asks May ending.GivesAddress = Asks
+Needs Asks May ending.GivesPort = Asks
+Needs Asks May (ending.Opens replies) = Asks
+Needs Asks May (ending.Performs (task.Fetch form)) = Asks
+Needs Asks May (ending.Performs (task.Store bytes)) = Asks × ((state : State) → May state took_no_more)
+Needs Asks May (ending.Finishes (Some kind)) = (state : State) → May state (io kind)
+Needs Asks May other = Unit {0}
 
-abbrev NeedsRow : (State → FtpError → Type 0) → Row → Type 0
-NeedsRow May (Exchanges exchange) = Needs May exchange.ending
-NeedsRow May other = Unit {0}
+abbrev NeedsRow : Type 0 → (State → FtpError → Type 0) → Row → Type 0
+NeedsRow Asks May (Exchanges exchange) = Needs Asks May exchange.ending
+NeedsRow Asks May (Moves movement) = Asks
+NeedsRow Asks May other = Unit {0}
 
 abbrev stops : State → Tree
 stops state = Leaf answer.Unit state
 
-module _ (coding : Coding) (state : State) (May : State → FtpError → Type 0) where
-  plain_accepted : (how : Ending) → IsQuietEnding how → (reply : Response) → Backed May (accepted coding how state reply stops)
-  plain_accepted how is reply = quiet_backed May (accepted coding how state reply stops) (accepted_quiet coding state stops (λ fault same grave. cc same) how is reply)
+-- what a text holds, or an error that needs no reason
+found_light : {A : Type 0} (told_for : Option A → Answer) → IsLight (told_for None) → ((found : A) → IsLight (told_for (Some found))) → (found : Option A) → IsLight (told_for found)
+found_light told_for none some None = none
+found_light told_for none some (Some found) = some found
 
-  plain_faulty : (how : Ending) → IsQuietEnding how → (fault : FtpError) → IsOfBytes fault → Backed May (concluded coding how state stops (Err fault))
-  plain_faulty how is fault bytes = quiet_backed May (concluded coding how state stops (Err fault)) (faulty_quiet coding state stops (λ other same grave. cc same) how is fault bytes)
+module _ (Asks : Type 0) (May : State → FtpError → Type 0) (coding : Coding) (state : State) where
+  -- replies are read until that to NOOP
+  sought_backed : (others : Response → Tree) → ((reply : Response) → Backed Asks May (others reply)) → (heard : Result Response FtpError) → MayHear heard → Backed Asks May (sought others state heard)
+  sought_backed others backed (Ok reply) may = λ fault same grave. cc same
+  sought_backed others backed (Err (faults.UnexpectedResponse reply)) may = backed reply
+  sought_backed others backed (Err other) may = light_fault Asks May other state (of_bytes other may)
 
-  finish_reason : (close : Option ErrorKind) → Needs May (ending.Finishes close) → (kind : ErrorKind) → close ≡ Some kind → (left : State) → May left (faults.ConnectionError (cause.Io kind))
-  finish_reason None needs kind is left = cc is
-  finish_reason (Some why) needs kind is left =
-      let P : ErrorKind → Type 0 = λ k. May left (faults.ConnectionError (cause.Io k)) in
-      subst P (let same : why ≡ kind = cc in same) (needs left)
+  seeking_backed : (left : ℕ) → Backed Asks May (seeking left state)
+  unfolding seeking
+  seeking_backed zero = (sought_backed (λ reply. Leaf (Fault (faults.UnexpectedResponse reply)) state) (λ reply. light_fault Asks May (faults.UnexpectedResponse reply) state (λ grave. grave)), λ kind same. cc same)
+  seeking_backed (suc left) = (sought_backed (passing_over (seeking left state) state) passed, λ kind same. cc same)
+    where
+      passed : (reply : Response) → Backed Asks May (passing_over (seeking left state) state reply)
+      passed reply = go (eqb (code_of reply.status) (code_of NotAvailable))
+        where
+          go : (b : Bool) → Backed Asks May (cond b (Leaf (Fault (faults.UnexpectedResponse reply)) state) (seeking left state))
+          go true = light_fault Asks May (faults.UnexpectedResponse reply) state (λ grave. grave)
+          go false = seeking_backed left
 
-  module _ (after : State → Tree) (backed : Backed May (after state)) where
-    accepted_backed : (how : Ending) → Needs May how → (reply : Response) → Backed May (accepted coding how state reply after)
-    accepted_backed ending.Done needs reply = plain_accepted ending.Done tt reply
-    accepted_backed ending.GivesReply needs reply = plain_accepted ending.GivesReply tt reply
-    accepted_backed ending.TakesReply needs reply = plain_accepted ending.TakesReply tt reply
-    accepted_backed ending.Greets needs reply = plain_accepted ending.Greets tt reply
-    accepted_backed ending.GivesPath needs reply = plain_accepted ending.GivesPath tt reply
-    accepted_backed ending.GivesSecondLine needs reply = plain_accepted ending.GivesSecondLine tt reply
-    accepted_backed ending.GivesTime needs reply = plain_accepted ending.GivesTime tt reply
-    accepted_backed ending.GivesSize needs reply = plain_accepted ending.GivesSize tt reply
-    accepted_backed ending.GivesFeatures needs reply = plain_accepted ending.GivesFeatures tt reply
-    accepted_backed (ending.SetsText text) needs reply = plain_accepted (ending.SetsText text) tt reply
-    accepted_backed ending.Drains needs reply = plain_accepted ending.Drains tt reply
+  resyncing_backed : Backed Asks May (resyncing coding state)
+  resyncing_backed = go (some_live state.counts.owed)
+    where
+      go : (b : Bool) → Backed Asks May (cond b (Leaf (Fault faults.DataConnectionAlreadyOpen) state) (saying coding (Some command.Noop) (seeking most_passed_over state)))
+      go true = light_fault Asks May faults.DataConnectionAlreadyOpen state (λ grave. grave)
+      go false = line_backed Asks May coding (Some command.Noop) (seeking most_passed_over state) (seeking_backed most_passed_over)
+
+  sought_left : (seeks : Resync) → Backed Asks May (resync_left coding state seeks)
+  sought_left resync.Wording = resyncing_backed
+  sought_left (resync.Sending line) = seeking_backed most_passed_over
+  sought_left (resync.Seeking left) = seeking_backed left
+
+  module _ (after : State → Tree) (backed : Backed Asks May (after state)) where
+    accepted_backed : (how : Ending) → Needs Asks May how → (reply : Response) → Backed Asks May (accepted coding how state reply after)
+    accepted_backed ending.GivesPath needs reply = light Asks May (path_answer reply (path_of coding.decode reply.body)) state (found_light (path_answer reply) (one_light (faults.UnexpectedResponse reply) (λ grave. grave)) (λ found fault is grave. cc is) (path_of coding.decode reply.body))
+    accepted_backed ending.GivesSecondLine needs reply = light Asks May (line_answer (second_line_of coding.decode reply.body)) state (found_light line_answer (one_light faults.BadResponse (λ grave. grave)) (λ found fault is grave. cc is) (second_line_of coding.decode reply.body))
+    accepted_backed ending.GivesTime needs reply = light Asks May (time_answer (time_of reply.body)) state (found_light time_answer (one_light faults.BadResponse (λ grave. grave)) (λ found fault is grave. cc is) (time_of reply.body))
+    accepted_backed ending.GivesSize needs reply = light Asks May (size_answer (size_of reply.body)) state (found_light size_answer (one_light faults.BadResponse (λ grave. grave)) (λ found fault is grave. cc is) (size_of reply.body))
+    accepted_backed ending.GivesFeatures needs reply = light Asks May (features_answer (features_in reply.body)) state (found_light features_answer (one_light faults.BadResponse (λ grave. grave)) (λ found fault is grave. cc is) (features_in reply.body))
     accepted_backed (ending.GoesOn status) needs reply = go (eqb (code_of reply.status) (code_of status))
       where
-        go : (b : Bool) → Backed May (cond b (after state) (Leaf answer.Unit state))
+        go : (b : Bool) → Backed Asks May (cond b (after state) (stops state))
         go true = backed
         go false = λ fault same grave. cc same
     accepted_backed ending.Continues needs reply = backed
-    accepted_backed ending.GivesAddress needs reply = told_backed state May coding reply (after state) backed (passive_address_of reply.body)
-    accepted_backed ending.GivesPort needs reply = port_backed state May coding reply (after state) backed (extended_port_of reply.body)
-    accepted_backed (ending.Opens replies) needs reply = opening_backed state May state.settings.mode (Leaf (opened_answer replies reply) (with_transfer state)) (no_error May replies reply (with_transfer state))
-    accepted_backed (ending.Performs (task.Fetch form)) needs reply = opening_backed state May state.settings.mode (performing coding (task.Fetch form) state) (gathering_backed most_reads May coding form [] state)
-    accepted_backed (ending.Performs (task.Store bytes)) needs reply = opening_backed state May state.settings.mode (performing coding (task.Store bytes) state) (storing_backed May needs bytes state)
-    accepted_backed (ending.Finishes close) needs reply = finished_heard state May coding close (finish_reason close needs) after (Ok reply) tt
-    accepted_backed ending.Stops needs reply = stopped_heard state May coding after backed (Ok reply) tt
+    accepted_backed ending.GivesAddress asks reply = told_backed Asks asks state May reply (after state) backed (passive_address_of reply.body)
+    accepted_backed ending.GivesPort asks reply = port_backed Asks asks state May reply (after state) backed (extended_port_of reply.body)
+    accepted_backed (ending.Opens true) asks reply = opening_backed Asks asks state May state.settings.mode (Leaf (opened_answer true reply) (with_transfer state)) (λ fault is grave. cc is)
+    accepted_backed (ending.Opens false) asks reply = opening_backed Asks asks state May state.settings.mode (Leaf (opened_answer false reply) (with_transfer state)) (λ fault is grave. cc is)
+    accepted_backed (ending.Performs (task.Fetch form)) asks reply = opening_backed Asks asks state May state.settings.mode (performing coding (task.Fetch form) state) (gathering_backed Asks asks most_reads May coding form [] state)
+    accepted_backed (ending.Performs (task.Store bytes)) needs reply = opening_backed Asks needs.0 state May state.settings.mode (performing coding (task.Store bytes) state) (storing_backed Asks needs.0 May needs.1 bytes state)
+    accepted_backed (ending.Finishes None) needs reply = λ fault is grave. cc is
+    accepted_backed (ending.Finishes (Some kind)) needs reply = λ fault is grave.
+        let P : FtpError → Type 0 = May (with_finished state) in
+        subst P (let e : io kind ≡ fault = cc in e) (needs (with_finished state))
+    accepted_backed ending.Stops needs reply = go (eqb (code_of reply.status) (code_of TransferAborted))
+      where
+        go : (b : Bool) → Backed Asks May (cond b (after state) (Leaf answer.Unit (with_aborted state)))
+        go true = backed
+        go false = λ fault is grave. cc is
+    accepted_backed other needs reply = λ fault is grave. cc is
 
-    faulty_backed : (how : Ending) → Needs May how → (fault : FtpError) → IsOfBytes fault → Backed May (concluded coding how state after (Err fault))
-    faulty_backed ending.Done needs fault bytes = plain_faulty ending.Done tt fault bytes
-    faulty_backed ending.GivesReply needs fault bytes = plain_faulty ending.GivesReply tt fault bytes
-    faulty_backed ending.TakesReply needs fault bytes = plain_faulty ending.TakesReply tt fault bytes
-    faulty_backed ending.Greets needs fault bytes = plain_faulty ending.Greets tt fault bytes
-    faulty_backed ending.GivesPath needs fault bytes = plain_faulty ending.GivesPath tt fault bytes
-    faulty_backed ending.GivesSecondLine needs fault bytes = plain_faulty ending.GivesSecondLine tt fault bytes
-    faulty_backed ending.GivesTime needs fault bytes = plain_faulty ending.GivesTime tt fault bytes
-    faulty_backed ending.GivesSize needs fault bytes = plain_faulty ending.GivesSize tt fault bytes
-    faulty_backed ending.GivesFeatures needs fault bytes = plain_faulty ending.GivesFeatures tt fault bytes
-    faulty_backed (ending.SetsText text) needs fault bytes = plain_faulty (ending.SetsText text) tt fault bytes
-    faulty_backed ending.Drains needs fault bytes = plain_faulty ending.Drains tt fault bytes
-    faulty_backed (ending.GoesOn status) needs fault bytes = plain_faulty (ending.GoesOn status) tt fault bytes
-    faulty_backed ending.Continues needs fault bytes = plain_faulty ending.Continues tt fault bytes
-    faulty_backed ending.GivesAddress needs fault bytes = light_fault May fault state (of_bytes fault bytes)
-    faulty_backed ending.GivesPort needs fault bytes = light_fault May fault state (of_bytes fault bytes)
-    faulty_backed (ending.Opens replies) needs fault bytes = light_fault May fault state (of_bytes fault bytes)
-    faulty_backed (ending.Performs (task.Fetch form)) needs fault bytes = light_fault May fault state (of_bytes fault bytes)
-    faulty_backed (ending.Performs (task.Store file)) needs fault bytes = light_fault May fault state (of_bytes fault bytes)
-    faulty_backed (ending.Finishes close) needs fault bytes = finished_heard state May coding close (finish_reason close needs) after (Err fault) bytes
-    faulty_backed ending.Stops needs fault bytes = stopped_heard state May coding after backed (Err fault) bytes
+    faulty_backed : (how : Ending) → Needs Asks May how → (fault : FtpError) → IsOfBytes fault → Backed Asks May (Leaf (answer_to_fault how fault) (after_fault_of how fault state))
+    faulty_backed (ending.Finishes (Some kind)) needs fault bytes = λ other is grave.
+        let left : State = after_fault_of (ending.Finishes (Some kind)) fault state in
+        let P : FtpError → Type 0 = May left in
+        subst P (let e : io kind ≡ other = cc in e) (needs left)
+    faulty_backed ending.Drains needs (faults.UnexpectedResponse reply) bytes = λ fault same grave. cc same
+    faulty_backed how needs fault bytes = light_fault Asks May fault (after_fault_of how fault state) (of_bytes fault bytes)
 
-    heard_backed : (how : Ending) → Needs May how → (heard : Result Response FtpError) → MayHear heard → Backed May (concluded coding how state after heard)
+    heard_backed : (how : Ending) → Needs Asks May how → (heard : Result Response FtpError) → MayHear heard → Backed Asks May (concluded coding how state after heard)
     heard_backed how needs (Ok reply) may = accepted_backed how needs reply
     heard_backed how needs (Err fault) may = faulty_backed how needs fault may
 
     -- an error of the connection is no failure of before
-    broken_backed : (how : Ending) (kind : ErrorKind) → answer_of (concluded coding how state after (Err (faults.ConnectionError (cause.Io kind)))) (Fault (faults.ConnectionError (cause.Io kind))) ≡ Fault faults.SessionFailed → (left : State) → May left faults.SessionFailed
-    broken_backed ending.Done kind same left = cc same
-    broken_backed ending.GivesReply kind same left = cc same
-    broken_backed ending.TakesReply kind same left = cc same
-    broken_backed ending.Greets kind same left = cc same
-    broken_backed ending.GivesPath kind same left = cc same
-    broken_backed ending.GivesSecondLine kind same left = cc same
-    broken_backed ending.GivesTime kind same left = cc same
-    broken_backed ending.GivesSize kind same left = cc same
-    broken_backed ending.GivesFeatures kind same left = cc same
-    broken_backed (ending.SetsText text) kind same left = cc same
-    broken_backed ending.Drains kind same left = cc same
-    broken_backed (ending.GoesOn status) kind same left = cc same
-    broken_backed ending.Continues kind same left = cc same
-    broken_backed ending.GivesAddress kind same left = cc same
-    broken_backed ending.GivesPort kind same left = cc same
-    broken_backed (ending.Opens replies) kind same left = cc same
-    broken_backed (ending.Performs todo) kind same left = cc same
-    broken_backed (ending.Finishes None) kind same left = cc same
-    broken_backed (ending.Finishes (Some why)) kind same left = cc same
-    broken_backed ending.Stops kind same left = cc same
+    broken : {T : Type 0} (how : Ending) (kind : ErrorKind) → answer_of (concluded coding how state after (Err (io kind))) (Fault (io kind)) ≡ Fault faults.SessionFailed → T
+    broken (ending.Finishes None) kind same = cc same
+    broken (ending.Finishes (Some why)) kind same = cc same
+    broken other kind same = cc same
 
-    row_backed : (row : Row) → NeedsRow May row → Backed May (doing coding row state after)
-    row_backed (Exchanges exchange) needs = line_backed May coding exchange.says _ (heard_backed exchange.ending needs, broken_backed exchange.ending)
+    row_backed : (row : Row) → NeedsRow Asks May row → Backed Asks May (doing coding row state after)
+    row_backed (Exchanges exchange) needs = line_backed Asks May coding exchange.says _ (heard_backed exchange.ending needs, λ kind same left. broken exchange.ending kind same)
+    row_backed Resyncs needs = resyncing_backed
+    row_backed (Moves movement) asks = carried_backed Asks asks state May movement
     row_backed (Arms offset) needs = λ fault same grave. cc same
-    row_backed Resyncs needs = quiet_backed May (resyncing coding state) (row_quiet coding Resyncs state stops tt (λ fault same grave. cc same))
     row_backed (Sets setting) needs = λ fault same grave. cc same
-    row_backed (Moves movement) needs = carried_backed May movement state
 
--- Turns
+-- Calls
+
+-- a call asks for a data connection, is made on one, or brings one to its end
+abbrev pub Carries : Call → Type 0
+Carries called = (negotiates called ≡ true) ⊎ (is_local called ≡ true) ⊎ (finishes called ≡ true)
+
+no_finish : (called : Call) → IsPlain called → finishes called ≡ true → ⊥
+no_finish call.Finish plain is = clash plain.2
+no_finish call.Abort plain is = clash plain.2
+no_finish other plain is = cc is
+
+pub plain_carries : (called : Call) → IsPlain called → Carries called → ⊥
+plain_carries called plain (inl is) = clash (sym is ∙ plain.0)
+plain_carries called plain (inr (inl is)) = clash (sym is ∙ plain.1)
+plain_carries called plain (inr (inr is)) = no_finish called plain is
 
 sends_whole : (called : Call) → sends called ≡ true → MayGive called Movements
 sends_whole (call.PutFile path bytes) is = (refl, (Second, (refl, refl), refl))
 sends_whole (call.AppendFile path bytes) is = (refl, (Second, (refl, refl), refl))
 sends_whole other is = cc is
 
-module _ (called : Call) (May : State → FtpError → Type 0) (short : MayGive called Movements → (state : State) → May state took_no_more) where
-  own_needs : (first : Bool) → NeedsRow May (own_row called first)
-  own_needs first = go called first (λ is. short (sends_whole called is))
+module _ (Asks : Type 0) (called : Call) (asks : Carries called → Asks) where
+  own_needs : (May : State → FtpError → Type 0) → (sends called ≡ true → (state : State) → May state took_no_more) → (first : Bool) → NeedsRow Asks May (own_row called first)
+  own_needs May short first = go called first asks short
     where
-      go : (c : Call) (b : Bool) → (sends c ≡ true → (state : State) → May state took_no_more) → NeedsRow May (own_row c b)
-      go call.Greet b takes = tt
-      go (call.Login user password) true takes = tt
-      go (call.Login user password) false takes = tt
-      go (call.Cwd directory) b takes = tt
-      go call.Cdup b takes = tt
-      go call.Pwd b takes = tt
-      go call.Noop b takes = tt
-      go call.Resync b takes = tt
-      go (call.Eprt address) b takes = tt
-      go (call.Opts name value) b takes = tt
-      go (call.Site words) b takes = tt
-      go (call.TransferType kind) b takes = tt
-      go (call.Mkdir path) b takes = tt
-      go (call.Rmdir path) b takes = tt
-      go (call.Rm path) b takes = tt
-      go (call.Rename one other) true takes = tt
-      go (call.Rename one other) false takes = tt
-      go call.Quit b takes = tt
-      go (call.Mlst path) b takes = tt
-      go (call.Mdtm path) b takes = tt
-      go (call.Size path) b takes = tt
-      go call.Feat b takes = tt
-      go (call.CustomCommand line codes) b takes = tt
-      go (call.ReadResponse status) b takes = tt
-      go (call.ReadResponseIn codes) b takes = tt
-      go (call.ResumeTransfer offset) b takes = tt
-      go (call.Set setting) b takes = tt
-      go call.Drain b takes = tt
-      go (call.RetrAsStream path) b takes = tt
-      go (call.PutWithStream path) b takes = tt
-      go (call.AppendWithStream path) b takes = tt
-      go (call.CustomDataCommand line codes) b takes = tt
-      go (call.Retr path) b takes = tt
-      go (call.List path) b takes = tt
-      go (call.Nlst path) b takes = tt
-      go (call.Mlsd path) b takes = tt
-      go (call.PutFile path bytes) b takes = takes refl
-      go (call.AppendFile path bytes) b takes = takes refl
-      go (call.Read most) b takes = tt
-      go (call.Write bytes) b takes = tt
-      go call.Leave b takes = tt
-      go call.Finish b takes = tt
-      go call.Abort b takes = tt
+      go : (c : Call) (b : Bool) → (Carries c → Asks) → (sends c ≡ true → (state : State) → May state took_no_more) → NeedsRow Asks May (own_row c b)
+      go (call.Login user password) true leave takes = tt
+      go (call.Login user password) false leave takes = tt
+      go (call.Rename one other) true leave takes = tt
+      go (call.Rename one other) false leave takes = tt
+      go (call.RetrAsStream path) b leave takes = leave (inl refl)
+      go (call.PutWithStream path) b leave takes = leave (inl refl)
+      go (call.AppendWithStream path) b leave takes = leave (inl refl)
+      go (call.CustomDataCommand line codes) b leave takes = leave (inl refl)
+      go (call.Retr path) b leave takes = leave (inl refl)
+      go (call.List path) b leave takes = leave (inl refl)
+      go (call.Nlst path) b leave takes = leave (inl refl)
+      go (call.Mlsd path) b leave takes = leave (inl refl)
+      go (call.PutFile path bytes) b leave takes = (leave (inl refl), takes refl)
+      go (call.AppendFile path bytes) b leave takes = (leave (inl refl), takes refl)
+      go (call.Read most) b leave takes = leave (inr (inl refl))
+      go (call.Write bytes) b leave takes = leave (inr (inl refl))
+      go call.Leave b leave takes = leave (inr (inl refl))
+      go other b leave takes = tt
 
-  turn_needs : (turn : Turn) → ((kind : ErrorKind) → turn ≡ Closed (Some kind) → (state : State) → May state (faults.ConnectionError (cause.Io kind))) → NeedsRow May (row_of called turn)
-  turn_needs First kept = own_needs true
-  turn_needs Second kept = own_needs false
-  turn_needs (Passive offset) kept = tt
-  turn_needs (ExtendedPassive offset) kept = tt
-  turn_needs (Active address offset) kept = tt
-  turn_needs (Restart offset) kept = tt
-  turn_needs (Closed None) kept = tt
-  turn_needs (Closed (Some kind)) kept = kept kind refl
-  turn_needs Aborted kept = tt
+  -- what is known of the states of a turn
+  module _ (May : State → FtpError → Type 0) (short : sends called ≡ true → (state : State) → May state took_no_more) where
+    turn_needs : (turn : Turn) → TurnOf called turn → ((kind : ErrorKind) → turn ≡ Closed (Some kind) → (state : State) → May state (io kind)) → NeedsRow Asks May (row_of called turn)
+    turn_needs First of kept = own_needs May short true
+    turn_needs Second of kept = own_needs May short false
+    turn_needs (Passive offset) of kept = asks (inl of)
+    turn_needs (ExtendedPassive offset) of kept = asks (inl of)
+    turn_needs (Active address offset) of kept = tt
+    turn_needs (Restart offset) of kept = tt
+    turn_needs (Closed None) of kept = tt
+    turn_needs (Closed (Some kind)) of kept = kept kind refl
+    turn_needs Aborted of kept = tt
 
-  module _ (coding : Coding) (state : State) where
-    last_backed : Backed May (last_turn coding called state)
-    last_backed = row_backed coding state May stops (λ fault same grave. cc same) (row_of called Second) (own_needs false)
+    module _ (coding : Coding) (state : State) where
+      last_backed : Backed Asks May (last_turn coding called state)
+      last_backed = row_backed Asks May coding state stops (λ fault same grave. cc same) (row_of called Second) (own_needs May short false)
 
-    again_backed : (offset : ℕ) → Backed May (restart_turn coding called offset state)
-    again_backed offset = restart_backed state May coding called last_backed offset
+      later_backed : (turn : Turn) → TurnOf called turn → Backed Asks May (later coding called turn state)
+      later_backed First of = last_backed
+      later_backed Second of = λ fault same grave. cc same
+      later_backed (Passive offset) of = restart_backed Asks (asks (inl of)) state May coding called last_backed offset
+      later_backed (ExtendedPassive offset) of = restart_backed Asks (asks (inl of)) state May coding called last_backed offset
+      later_backed (Active address offset) of = restart_backed Asks (asks (inl of)) state May coding called last_backed offset
+      later_backed (Restart offset) of = last_backed
+      later_backed (Closed close) of = λ fault same grave. cc same
+      later_backed Aborted of = last_backed
 
-    later_backed : (turn : Turn) → Backed May (later coding called turn state)
-    later_backed First = last_backed
-    later_backed Second = λ fault same grave. cc same
-    later_backed (Passive offset) = again_backed offset
-    later_backed (ExtendedPassive offset) = again_backed offset
-    later_backed (Active address offset) = again_backed offset
-    later_backed (Restart offset) = last_backed
-    later_backed (Closed close) = λ fault same grave. cc same
-    later_backed Aborted = last_backed
+      turn_backed : (turn : Turn) → TurnOf called turn → ((kind : ErrorKind) → turn ≡ Closed (Some kind) → (left : State) → May left (io kind)) → Backed Asks May (from_turn coding called turn state)
+      turn_backed turn of kept = row_backed Asks May coding state (later coding called turn) (later_backed turn of) (row_of called turn) (turn_needs turn of kept)
 
-    turn_backed : (turn : Turn) → ((kind : ErrorKind) → turn ≡ Closed (Some kind) → (left : State) → May left (faults.ConnectionError (cause.Io kind))) → Backed May (from_turn coding called turn state)
-    turn_backed turn kept = row_backed coding state May (later coding called turn) (later_backed turn) (row_of called turn) (turn_needs turn kept)
+      -- a reply is awaited
+      awaits_needs : (turn : Turn) → TurnOf called turn → (how : Ending) → ending_of (row_of called turn) ≡ Some how → (Carries called → (fault : FtpError) → kept_by how ≡ Some fault → (left : State) → May left fault) → Needs Asks May how
+      awaits_needs turn of how is kept = of_row (row_of called turn) (turn_needs turn of reason) is
+        where
+          reason : (kind : ErrorKind) → turn ≡ Closed (Some kind) → (left : State) → May left (io kind)
+          reason kind at =
+              let P : Turn → Type 0 = λ t. ending_of (row_of called t) ≡ Some how in
+              let Q : Turn → Type 0 = λ t. TurnOf called t in
+              let here : Some (ending.Finishes (Some kind)) ≡ Some how = subst P at is in
+              let same : ending.Finishes (Some kind) ≡ how = cc in
+              kept (inr (inr (subst Q at of))) (io kind) (sym (ap kept_by same))
 
-    -- a reply is awaited
-    awaits_needs : (turn : Turn) (how : Ending) → ending_of (row_of called turn) ≡ Some how → ((fault : FtpError) → kept_by how ≡ Some fault → (left : State) → May left fault) → Needs May how
-    awaits_needs turn how is kept = of_row (row_of called turn) (turn_needs turn reason) is
-      where
-        reason : (kind : ErrorKind) → turn ≡ Closed (Some kind) → (left : State) → May left (faults.ConnectionError (cause.Io kind))
-        reason kind at =
-            let P : Turn → Type 0 = λ t. ending_of (row_of called t) ≡ Some how in
-            let here : Some (ending.Finishes (Some kind)) ≡ Some how = subst P at is in
-            let same : ending.Finishes (Some kind) ≡ how = cc in
-            kept (faults.ConnectionError (cause.Io kind)) (sym (ap kept_by same))
+          of_row : (row : Row) → NeedsRow Asks May row → ending_of row ≡ Some how → Needs Asks May how
+          of_row (Exchanges exchange) needs same = subst (Needs Asks May) (let e : exchange.ending ≡ how = cc in e) needs
+          of_row other needs same = cc same
 
-        of_row : (row : Row) → NeedsRow May row → ending_of row ≡ Some how → Needs May how
-        of_row (Exchanges exchange) needs same = subst (Needs May) (let e : exchange.ending ≡ how = cc in e) needs
-        of_row (Arms offset) needs same = cc same
-        of_row Resyncs needs same = cc same
-        of_row (Sets setting) needs same = cc same
-        of_row (Moves movement) needs same = cc same
+      awaited_backed : (a : Awaits) → TurnOf called a.turn → ending_of (row_of called a.turn) ≡ Some a.ending → (Carries called → (fault : FtpError) → kept_by a.ending ≡ Some fault → (left : State) → May left fault) → Backed Asks May (awaited coding called state a)
+      awaited_backed a of is kept =
+          (heard_backed Asks May coding state (later coding called a.turn) (later_backed a.turn of) a.ending (awaits_needs a.turn of a.ending is kept), λ kind same left. broken Asks May coding state (later coding called a.turn) (later_backed a.turn of) a.ending kind same)
 
-    awaited_backed : (a : Awaits) → ending_of (row_of called a.turn) ≡ Some a.ending → ((fault : FtpError) → kept_by a.ending ≡ Some fault → (left : State) → May left fault) → Backed May (awaited coding called state a)
-    awaited_backed a is kept =
-        (heard_backed coding state May (later coding called a.turn) (later_backed a.turn) a.ending (awaits_needs a.turn a.ending is kept), broken_backed coding state May (later coding called a.turn) (later_backed a.turn) a.ending)
+-- The end of a transfer, and where a call begins
 
-    -- a data connection stands
-    performed_backed : (what : Task) → MayPerform called what → Backed May (performing coding what state)
-    performed_backed (task.Fetch form) may = gathering_backed most_reads May coding form [] state
-    performed_backed (task.Store bytes) may = storing_backed May (short may) bytes state
-
-    opened_backed : (then : Opening) → OpeningOf called then → Backed May (opened_by coding then state)
-    opened_backed (opened.Gives told) is = λ fault same grave. absurd (is.1 (subst IsFault (sym same) tt))
-    opened_backed (opened.Performs what) is = performed_backed what is
-
-    secured_after : (then : Opening) → OpeningOf called then → Backed May (securing (opened_by coding then state) state)
-    secured_after then is = securing_backed state May (opened_by coding then state) (opened_backed then is)
-
-    asking_backed : (turn : Turn) (asking : Asked) → AskingOf called asking → Backed May (asking_of coding asking state (later coding called turn state))
-    asking_backed turn (asks.PeerPort port) is = peer_backed state May coding port (later coding called turn state) (later_backed turn)
-    asking_backed turn (asks.Connection address) is = connecting_backed state May address (later coding called turn state) (later_backed turn)
-    asking_backed turn (asks.Peer then) is = λ peer. accepting_backed state May (securing (opened_by coding then state) state) (secured_after then is) peer strangers
-    asking_backed turn (asks.Accepting peer left then) is = accepting_backed state May (securing (opened_by coding then state) state) (secured_after then is) peer left
-    asking_backed turn (asks.Securing then) is = secured_backed state May (opened_by coding then state) (opened_backed then is)
-
-    way_backed : (on : Way) → WayOf called on → ((fault : FtpError) → cannot_open state.counts ≡ Some fault → way_of coding called state on ≡ Leaf (Fault fault) state → May state fault) → Backed May (way_of coding called state on)
-    way_backed (way.Negotiating offset) is spent = negotiating_backed state May coding called last_backed offset (λ fault none. spent fault none (ap (λ o. negotiating_unless o coding called offset state) none))
-    way_backed (way.Locating offset) is spent = opening_data_backed state May coding called last_backed offset mode.Active
-    way_backed (way.Binding local offset) is spent = opening_data_backed state May coding called last_backed offset mode.Active local
-    way_backed (way.Asking turn asking) is spent = asking_backed turn asking is
-
-    -- it carries a whole file or listing
-    told_reasoned : (told : Answer) → ((fault : FtpError) → error_of told ≡ Some fault → (left : State) → May left fault) → Reasoned May told
-    told_reasoned told kept = λ left fault same grave. kept fault (ap error_of same) left
-
-    carries_backed : (fetching : Fetched) → FetchOf called fetching → ((fault : FtpError) → kept_error (Transferring fetching) ≡ Some fault → (left : State) → May left fault) → Backed May (fetch_left coding state fetching)
-    carries_backed (fetch.Starting what) is kept = performed_backed what is
-    carries_backed (fetch.Gathering form left all) is kept = gathering_backed left May coding form all state
-    carries_backed (fetch.Sending left total rest) is kept = sending_backed left May (short is) total rest state
-    carries_backed (fetch.ClosingData form told) is kept = closing_fetch_backed May form told state (told_reasoned told kept)
-    carries_backed (fetch.Ending form told) is kept = ending_fetch_backed May form told state (told_reasoned told kept)
-
-    sought_backed : (seeks : Resync) → Backed May (resync_left coding state seeks)
-    sought_backed resync.Wording = row_backed coding state May stops (λ fault same grave. cc same) Resyncs tt
-    sought_backed (resync.Sending line) = quiet_backed May (seeking most_passed_over state) (seeking_quiet most_passed_over state)
-    sought_backed (resync.Seeking left) = quiet_backed May (seeking left state) (seeking_quiet left state)
-
--- The end of a transfer, and each stage
-
-module _ (called : Call) (May : State → FtpError → Type 0) (short : MayGive called Movements → (state : State) → May state took_no_more) (coding : Coding) (state : State) where
-  or_short : (outcome : NetOutcome) → MayGive called Movements → (left : State) → Or May outcome left took_no_more
+module _ (Asks : Type 0) (called : Call) (asks : Carries called → Asks) (May : State → FtpError → Type 0) (short : sends called ≡ true → (state : State) → May state took_no_more) (coding : Coding) (state : State) where
+  or_short : (outcome : NetOutcome) → sends called ≡ true → (left : State) → Or Asks May outcome left took_no_more
   or_short outcome gives left = inl (short gives left)
 
   close_is : (told : Option ErrorKind) (kind : ErrorKind) → Closed told ≡ Closed (Some kind) → told ≡ Some kind
   close_is told kind is = cc is
 
-  closing_backed : Backed May (closing coding called state)
-  closing_backed = λ outcome.
+  closing_backed : finishes called ≡ true → Backed Asks May (closing coding called state)
+  closing_backed ends = λ outcome.
       let told = told_of_close state.uploads outcome in
-      turn_backed called (Or May outcome) (or_short outcome) coding state (Closed told) (λ kind is left. inr (close_given state.uploads outcome kind (close_is told kind is)))
+      let leave = asks (inr (inr ends)) in
+      turn_backed Asks called asks (Or Asks May outcome) (or_short outcome) coding state (Closed told) ends (λ kind is left. inr (leave, close_given Asks leave state.uploads outcome kind (close_is told kind is)))
 
-  breaking_backed : Backed May (breaking_off coding called state)
-  breaking_backed = λ outcome. turn_backed called (Or May outcome) (or_short outcome) coding state Aborted (λ kind is. cc is)
+  breaking_backed : aborts called ≡ true → Backed Asks May (breaking_off coding called state)
+  breaking_backed ends = λ outcome. turn_backed Asks called asks (Or Asks May outcome) (or_short outcome) coding state Aborted ends (λ kind is. cc is)
 
-  aborting_backed : Backed May (aborting coding called state)
-  aborting_backed = line_backed May coding (Some command.Abor) (breaking_off coding called state) breaking_backed
+  aborting_backed : aborts called ≡ true → Backed Asks May (aborting coding called state)
+  aborting_backed ends = line_backed Asks May coding (Some command.Abor) (breaking_off coding called state) (breaking_backed ends)
 
-  abort_backed : (how : Abort) → Backed May (abort_left coding called state how)
-  abort_backed abort.Wording = aborting_backed
-  abort_backed (abort.Sending line) = breaking_backed
-  abort_backed abort.ClosingData = breaking_backed
+  abort_backed : aborts called ≡ true → (how : Abort) → Backed Asks May (abort_left coding called state how)
+  abort_backed ends abort.Wording = aborting_backed ends
+  abort_backed ends (abort.Sending line) = breaking_backed ends
+  abort_backed ends abort.ClosingData = breaking_backed ends
 
-  stage_backed : (stage : Stage) → StageOf called stage → ((fault : FtpError) → kept_error stage ≡ Some fault → (left : State) → May left fault) → ((fault : FtpError) → cannot_open state.counts ≡ Some fault → remaining coding called state stage ≡ Leaf (Fault fault) state → May state fault) → Backed May (remaining coding called state stage)
-  stage_backed (At turn) is kept spent = turn_backed called May short coding state turn reason
-    where
-      reason : (kind : ErrorKind) → turn ≡ Closed (Some kind) → (left : State) → May left (faults.ConnectionError (cause.Io kind))
-      reason kind at = kept (faults.ConnectionError (cause.Io kind)) (ap (λ t. kept_error (At t)) at)
-  stage_backed (Saying line a) is kept spent = awaited_backed called May short coding state a is.0 kept
-  stage_backed (Hearing a) is kept spent = awaited_backed called May short coding state a is.0 kept
-  stage_backed (Arming turn offset) is kept spent = λ fault same grave. cc same
-  stage_backed (Resyncing turn seeks) is kept spent = sought_backed called May short coding state seeks
-  stage_backed (OpeningData on) is kept spent = way_backed called May short coding state on is.1 spent
-  stage_backed Closing is kept spent = closing_backed
-  stage_backed (Aborting how) is kept spent = abort_backed how
-  stage_backed (Transferring fetching) is kept spent = carries_backed called May short coding state fetching is kept
-
--- Where a poll begins
-
-module _ (called : Call) (May : State → FtpError → Type 0) (short : MayGive called Movements → (state : State) → May state took_no_more) (coding : Coding) (state : State) where
-  begun_backed : ((fault : FtpError) (s : State) → cannot_open s.counts ≡ Some fault → dialogue coding called state ≡ Leaf (Fault fault) s → May s fault) → Backed May (dialogue coding called state)
+module _ (Asks : Type 0) (called : Call) (asks : Carries called → Asks) (May : State → FtpError → Type 0) (short : sends called ≡ true → (state : State) → May state took_no_more) (coding : Coding) (state : State) where
+  pub begun_backed : (negotiates called ≡ true → (fault : FtpError) (s : State) → cannot_open s.counts ≡ Some fault → dialogue coding called state ≡ Leaf (Fault fault) s → May s fault) → Backed Asks May (dialogue coding called state)
   begun_backed spent = go (negotiates called) refl
     where
-      ends : (b : Bool) → Backed May (cond b (aborting coding called (with_left state)) (closing coding called (with_left state)))
-      ends true = aborting_backed called May short coding (with_left state)
-      ends false = closing_backed called May short coding (with_left state)
+      left : State
+      left = with_left state
 
-      rest : (b : Bool) → Backed May (cond b (closing_data coding called (with_left state)) (from_turn coding called First state))
-      rest true = ends (aborts called)
-      rest false = turn_backed called May short coding state First (λ kind is. cc is)
+      ends : finishes called ≡ true → (b : Bool) → aborts called ≡ b → Backed Asks May (cond b (aborting coding called left) (closing coding called left))
+      ends is true aborts = aborting_backed Asks called asks May short coding left aborts
+      ends is false aborts = closing_backed Asks called asks May short coding left is
+
+      -- it needs no turn of its own at the start, but its row
+      rest : (b : Bool) → finishes called ≡ b → Backed Asks May (cond b (closing_data coding called left) (from_turn coding called First state))
+      rest true is = ends is (aborts called) refl
+      rest false is = row_backed Asks May coding state (later coding called First) (last_backed Asks called asks May short coding state) (row_of called First) (own_needs Asks called asks May short true)
 
       opens : Tree
       opens = negotiating coding called state.settings.restart_offset (opened_from called state)
 
       others : Tree
-      others = cond (finishes called) (closing_data coding called (with_left state)) (from_turn coding called First state)
+      others = cond (finishes called) (closing_data coding called left) (from_turn coding called First state)
 
-      go : (b : Bool) → negotiates called ≡ b → Backed May (cond b opens others)
-      go false is = rest (finishes called)
-      go true is = negotiating_backed (opened_from called state) May coding called (last_backed called May short coding (opened_from called state)) state.settings.restart_offset
-          (λ fault none. spent fault (opened_from called state) none (ap (λ b. cond b opens others) is ∙ ap (λ o. negotiating_unless o coding called state.settings.restart_offset (opened_from called state)) none))
+      go : (b : Bool) → negotiates called ≡ b → Backed Asks May (cond b opens others)
+      go false is = rest (finishes called) refl
+      go true is = negotiating_backed Asks (asks (inl is)) (opened_from called state) May coding called (last_backed Asks called asks May short coding (opened_from called state)) state.settings.restart_offset
+          (λ fault none. spent is fault (opened_from called state) none (ap (λ b. cond b opens others) is ∙ ap (λ o. negotiating_unless o coding called state.settings.restart_offset (opened_from called state)) none))
 
-  pub entered_backed : (stage : Stage) → StageIn (Some called) stage → ((fault : FtpError) → kept_error stage ≡ Some fault → (left : State) → May left fault) → ((fault : FtpError) (s : State) → cannot_open s.counts ≡ Some fault → entered_tree coding called stage state ≡ Leaf (Fault fault) s → May s fault) → Backed May (entered_tree coding called stage state)
+-- Each stage
+
+module _ (Asks : Type 0) (called : Call) (asks : Carries called → Asks) (May : State → FtpError → Type 0) (gives : MayGive called Movements → (state : State) → May state took_no_more) (coding : Coding) (state : State) where
+  short : sends called ≡ true → (left : State) → May left took_no_more
+  short is = gives (sends_whole called is)
+
+  -- a data connection stands
+  performed_backed : Asks → (what : Task) → MayPerform called what → Backed Asks May (performing coding what state)
+  performed_backed leave (task.Fetch form) may = gathering_backed Asks leave most_reads May coding form [] state
+  performed_backed leave (task.Store bytes) may = storing_backed Asks leave May (gives may) bytes state
+
+  opened_backed : Asks → (then : Opening) → OpeningOf called then → Backed Asks May (opened_by coding then state)
+  opened_backed leave (opened.Gives told) is = λ fault same grave. absurd (is.1 (subst IsFault (sym same) tt))
+  opened_backed leave (opened.Performs what) is = performed_backed leave what is
+
+  asking_backed : Asks → (turn : Turn) → Backed Asks May (later coding called turn state) → (asking : Asked) → AskingOf called asking → Backed Asks May (asking_of coding asking state (later coding called turn state))
+  asking_backed leave turn backed (asks.PeerPort port) is = peer_backed Asks leave state May port (later coding called turn state) backed
+  asking_backed leave turn backed (asks.Connection address) is = connecting_backed Asks leave state May address (later coding called turn state) backed
+  asking_backed leave turn backed (asks.Peer then) is = λ peer. accepting_backed Asks leave state May (securing (opened_by coding then state) state) (securing_backed Asks leave state May (opened_by coding then state) (opened_backed leave then is)) peer strangers
+  asking_backed leave turn backed (asks.Accepting peer left then) is = accepting_backed Asks leave state May (securing (opened_by coding then state) state) (securing_backed Asks leave state May (opened_by coding then state) (opened_backed leave then is)) peer left
+  asking_backed leave turn backed (asks.Securing then) is = secured_backed Asks leave state May (opened_by coding then state) (opened_backed leave then is)
+
+  way_backed : negotiates called ≡ true → (on : Way) → WayOf called on → ((fault : FtpError) → cannot_open state.counts ≡ Some fault → way_of coding called state on ≡ Leaf (Fault fault) state → May state fault) → Backed Asks May (way_of coding called state on)
+  way_backed is (way.Negotiating offset) of spent = negotiating_backed Asks (asks (inl is)) state May coding called (last_backed Asks called asks May short coding state) offset (λ fault none. spent fault none (ap (λ o. negotiating_unless o coding called offset state) none))
+  way_backed is (way.Locating offset) of spent = opening_data_backed Asks (asks (inl is)) state May coding called (last_backed Asks called asks May short coding state) offset mode.Active
+  way_backed is (way.Binding local offset) of spent = opening_data_backed Asks (asks (inl is)) state May coding called (last_backed Asks called asks May short coding state) offset mode.Active local
+  way_backed is (way.Asking turn asking) of spent = asking_backed (asks (inl is)) turn (later_any turn) asking of
+    where
+      -- whatever the turn was, it negotiates
+      later_any : (turn : Turn) → Backed Asks May (later coding called turn state)
+      later_any First = last_backed Asks called asks May short coding state
+      later_any Second = λ fault same grave. cc same
+      later_any (Passive offset) = later_backed Asks called asks May short coding state (Passive offset) is
+      later_any (ExtendedPassive offset) = later_backed Asks called asks May short coding state (ExtendedPassive offset) is
+      later_any (Active address offset) = later_backed Asks called asks May short coding state (Active address offset) is
+      later_any (Restart offset) = last_backed Asks called asks May short coding state
+      later_any (Closed close) = λ fault same grave. cc same
+      later_any Aborted = last_backed Asks called asks May short coding state
+
+  -- it carries a whole file or listing
+  told_reasoned : (told : Answer) → ((fault : FtpError) → error_of told ≡ Some fault → (left : State) → May left fault) → (left : State) (fault : FtpError) → told ≡ Fault fault → IsGrave fault → May left fault
+  told_reasoned told kept = λ left fault same grave. kept fault (ap error_of same) left
+
+  fetches : (fetching : Fetched) → FetchOf called fetching → negotiates called ≡ true
+  fetches (fetch.Starting what) is = is.0
+  fetches (fetch.Gathering form left all) is = is.0
+  fetches (fetch.Sending left total rest) is = is.0
+  fetches (fetch.ClosingData form told) is = is.0.0
+  fetches (fetch.Ending form told) is = is.0.0
+
+  carries_backed : Asks → (fetching : Fetched) → FetchOf called fetching → ((fault : FtpError) → kept_error (Transferring fetching) ≡ Some fault → (left : State) → May left fault) → Backed Asks May (fetch_left coding state fetching)
+  carries_backed leave (fetch.Starting what) is kept = performed_backed leave what is
+  carries_backed leave (fetch.Gathering form left all) is kept = gathering_backed Asks leave left May coding form all state
+  carries_backed leave (fetch.Sending left total rest) is kept = sending_backed Asks leave left May (gives is) total rest state
+  carries_backed leave (fetch.ClosingData form told) is kept = closing_fetch_backed Asks leave May form told state (told_reasoned told kept)
+  carries_backed leave (fetch.Ending form told) is kept = ending_fetch_backed Asks leave May form told state (told_reasoned told kept)
+
+  stage_backed : (stage : Stage) → StageOf called stage → (Carries called → (fault : FtpError) → kept_error stage ≡ Some fault → (left : State) → May left fault) → (negotiates called ≡ true → (fault : FtpError) → cannot_open state.counts ≡ Some fault → remaining coding called state stage ≡ Leaf (Fault fault) state → May state fault) → Backed Asks May (remaining coding called state stage)
+  stage_backed (At turn) is kept spent = turn_backed Asks called asks May short coding state turn is reason
+    where
+      reason : (kind : ErrorKind) → turn ≡ Closed (Some kind) → (left : State) → May left (io kind)
+      reason kind at =
+          let Q : Turn → Type 0 = λ t. TurnOf called t in
+          kept (inr (inr (subst Q at is))) (io kind) (ap (λ t. kept_error (At t)) at)
+  stage_backed (Saying line a) is kept spent = awaited_backed Asks called asks May short coding state a is.2 is.0 kept
+  stage_backed (Hearing a) is kept spent = awaited_backed Asks called asks May short coding state a is.2 is.0 kept
+  stage_backed (Arming turn offset) is kept spent = λ fault same grave. cc same
+  stage_backed (Resyncing turn seeks) is kept spent = sought_left Asks May coding state seeks
+  stage_backed (OpeningData on) is kept spent = way_backed is.0 on is.1 (spent is.0)
+  stage_backed Closing is kept spent = closing_backed Asks called asks May short coding state is
+  stage_backed (Aborting how) is kept spent = abort_backed Asks called asks May short coding state is how
+  stage_backed (Transferring fetching) is kept spent = let opens = fetches fetching is in carries_backed (asks (inl opens)) fetching is (kept (inl opens))
+
+  -- where a poll begins
+  pub entered_backed : (stage : Stage) → StageIn (Some called) stage → (Carries called → (fault : FtpError) → kept_error stage ≡ Some fault → (left : State) → May left fault) → (negotiates called ≡ true → (fault : FtpError) (s : State) → cannot_open s.counts ≡ Some fault → entered_tree coding called stage state ≡ Leaf (Fault fault) s → May s fault) → Backed Asks May (entered_tree coding called stage state)
   entered_backed stage at kept spent = go (is_first stage) refl at
     where
       tree : Bool → Tree
       tree b = cond b (dialogue coding called state) (remaining coding called state stage)
 
-      go : (b : Bool) → is_first stage ≡ b → StageOf called stage ⊎ (stage ≡ At First) → Backed May (cond b (dialogue coding called state) (remaining coding called state stage))
-      go true first is = begun_backed (λ fault s none leaf. spent fault s none (ap tree first ∙ leaf))
-      go false later (inl of) = stage_backed called May short coding state stage of kept (λ fault none leaf. spent fault state none (ap tree later ∙ leaf))
+      go : (b : Bool) → is_first stage ≡ b → StageOf called stage ⊎ (stage ≡ At First) → Backed Asks May (cond b (dialogue coding called state) (remaining coding called state stage))
+      go true first is = begun_backed Asks called asks May short coding state (λ is fault s none leaf. spent is fault s none (ap tree first ∙ leaf))
+      go false later (inl of) = stage_backed stage of kept (λ is fault none leaf. spent is fault state none (ap tree later ∙ leaf))
       go false later (inr is) = clash (sym (ap is_first is) ∙ later)
+
+-- The sorts of calls
+
+-- no error needs another reason
+abbrev pub Never : State → FtpError → Type 0
+Never state fault = ⊥
+
+-- the transfers of these counts are spent, or one is live
+abbrev pub Spent : State → FtpError → Type 0
+Spent state fault = cannot_open state.counts ≡ Some fault
+
+-- a call that asks nothing beside the control connection
+pub quiet_backed : (coding : Coding) (called : Call) → (Carries called → ⊥) → (sends called ≡ true → ⊥) → (state : State) → Backed ⊥ Never (dialogue coding called state)
+quiet_backed coding called none sends_none state = begun_backed ⊥ called none Never (λ is. absurd (sends_none is)) coding state (λ is. absurd (none (inl is)))
+
+sends_opens : (called : Call) → sends called ≡ true → negotiates called ≡ true
+sends_opens called is = (sends_whole called is).0
+
+pub plain_backed : (coding : Coding) (called : Call) → IsPlain called → (state : State) → Backed ⊥ Never (dialogue coding called state)
+plain_backed coding called plain state =
+    let none = plain_carries called plain in
+    quiet_backed coding called none (λ is. none (inl (sends_opens called is))) state
+
+pub drain_backed : (coding : Coding) (state : State) → Backed ⊥ Never (dialogue coding call.Drain state)
+drain_backed coding state = quiet_backed coding call.Drain drain_carries (λ is. cc is) state
+  where
+    drain_carries : Carries call.Drain → ⊥
+    drain_carries (inl is) = cc is
+    drain_carries (inr (inl is)) = cc is
+    drain_carries (inr (inr is)) = cc is
+
+-- one that sends no bytes of its own
+pub opens_backed : (coding : Coding) (called : Call) → sends called ≡ false → (state : State) → Backed (Unit {0}) Spent (dialogue coding called state)
+opens_backed coding called none state = begun_backed (Unit {0}) called (λ carries. tt) Spent (λ is. clash (sym is ∙ none)) coding state (λ is fault s spent leaf. spent)

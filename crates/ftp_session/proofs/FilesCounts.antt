@@ -1,5 +1,5 @@
 -- Failures that are counted while a whole file is moved.
-use Rattle.std.proofs.Common.{◌≡◌, ℕ, Bool, true, false, List, Option, Some, None, Result, Ok, Err, inl, inr, ◌⊎◌, refl, ap, sym, subst}
+use Rattle.std.proofs.Common.{◌≡◌, ℕ, Bool, true, false, List, Option, Some, None, Result, Ok, Err, inl, inr, ◌⊎◌, refl, ap, sym, ◌∙◌, subst}
 use Rattle.std.specs.Prelude.{IfErr}
 use Rattle.std.specs.Io.KnownBytes.{Appends}
 use Rattle.std.specs.declared.io.ErrorKind.{ErrorKind}
@@ -7,12 +7,10 @@ use Rattle.ftp_base.specs.Ascii.{AppendsFront, IsCopyFault, wire_data}
 use Rattle.ftp_base.specs.declared.types.fault.ConnectionError.TheVariants as cause
 use Rattle.ftp_base.specs.declared.types.fault.FtpError.{FtpError}
 use Rattle.ftp_base.specs.declared.types.fault.FtpError.TheVariants as faults
-use Rattle.ftp_calls.specs.Exchanges.{row_of}
-use Rattle.ftp_calls.specs.Kinds.{IsOpening}
 use Rattle.ftp_calls.specs.declared.call.Answer.{Answer}
 use Rattle.ftp_calls.specs.declared.call.Answer.TheVariants.{Fault, Opened}
 use Rattle.ftp_calls.specs.declared.call.Call.{Call}
-use Rattle.ftp_calls.specs.declared.exchange.Turn.TheVariants.{Second}
+use Rattle.ftp_transport.specs.Told.{NoneFailed, Told}
 use Rattle.ftp_transfer.specs.Mark.{End}
 use Rattle.ftp_transfer.specs.Transfer.{TransferValue}
 use Rattle.ftp_transfer.specs.declared.direction.Direction.{Direction}
@@ -23,16 +21,24 @@ use Rattle.ftp_dialogue.specs.Link.{Link}
 use Rattle.ftp_dialogue.specs.Sound.{cannot_open}
 use Rattle.ftp_dialogue.specs.State.{SessionValue}
 use Rattle.ftp_transfer.specs.Copying.{Copies, GaveUp, Hinders, Wrote, WroteFront}
+use Rattle.ftp_session.specs.Calls.{sends}
 use Rattle.ftp_session.specs.Counting.{CopyStops, CountsDownload, CountsSaving, CountsUpload, CountsWhole, GivesOn, OnOpened, SaveStops}
 use Rattle.ftp_session.specs.Files.{EndsUpload, FinishesWhole, OpensAndReads, OpensAndStores, Puts, PutsFrom, Retrieves, RetrievesFrom, failed_if, first_of, lacks_memory, unless_failed, OpensAndReceives, WritesFrom, WritesTo}
 use Rattle.ftp_session.specs.Handed.{OpensOne, as_seen, with_data}
 use Rattle.ftp_transfer.specs.Saving.{EndsEarly, SaveFails, Saves, StopsAt}
-use Rattle.ftp_session.proofs.Backed.{OpensOnly}
-use Rattle.ftp_session.proofs.CaughtUp.{caught_on}
-use Rattle.ftp_session.proofs.Failures.{Caught, none_then}
-use Rattle.ftp_session.proofs.Kept.{same_kept, seen_kept, step_kept}
-use Rattle.ftp_session.proofs.Quiet.{IsGrave}
+use Rattle.ftp_session.proofs.Backed.{IsGrave}
+use Rattle.ftp_session.proofs.Calm.{Calm, calm_on, calm_seen}
+use Rattle.ftp_session.proofs.Grounds.{none_then, step_calm}
 use Rattle.ftp_session.proofs.Reasons.{ends_reasons, opened_reasons}
+
+-- no failure was counted, and the session hasn't failed since
+abbrev Kept : Type 0 → SessionValue → SessionValue → Type 0
+Kept tells old new = (tells → NoneFailed old.channel.told new.channel.told) × (new.channel.failed ≡ true → old.channel.failed ≡ true)
+
+kept_to : (link : Link) (old middle new : SessionValue) → Calm link old middle → new.channel ≡ middle.channel → Kept link.tells old new
+kept_to link old middle new calm same =
+    let P : Told → Type 0 = λ t. NoneFailed old.channel.told t in
+    (λ h. subst P (ap (λ c. c.told) (sym same)) (calm.none h), λ f. calm.going (ap (λ c. c.failed) (sym same) ∙ f))
 
 -- Where the error comes from
 
@@ -61,7 +67,7 @@ module _ (link : Link) (Gives : Type 0) (old new : SessionValue) (fault : FtpErr
       failed is (inr (inr gives)) = inr (inr (inl (subst P (sym is) gives)))
 
   -- the end of the transfer gave it, on a session as one in which nothing had failed
-  of_end : (ends : Link) (same : link.tells → ends.tells) (at : SessionValue) → Caught link.tells old at None → CountsFaultsBeside ends at new (Fault fault) → (IsGivenBeside ends fault at.net new.net → Gives) → CountsWhole link Gives old new fault
+  of_end : (ends : Link) (same : link.tells → ends.tells) (at : SessionValue) → Kept link.tells old at → CountsFaultsBeside ends at new (Fault fault) → (IsGivenBeside ends fault at.net new.net → Gives) → CountsWhole link Gives old new fault
   of_end ends same at kept counts gives = record { counted = λ kind is h. counted kind is h (counts.counted kind (ap Fault is) (same h)); had_failed = λ is. failed is (counts.had_failed (ap Fault is)) }
     where
       P : FtpError → Type 0
@@ -90,11 +96,6 @@ finishes_reasons : (link : Link) (coding : Coding) (transfer : TransferValue) (m
 finishes_reasons link coding transfer mark after old new fault (last, brings, is) =
     failed_at link (lacks_memory (Err fault)) (with_data (Some transfer.told) old) last new (Fault fault) is (ends_reasons link coding false transfer mark after old last (Fault fault) brings)
 
--- a transfer was opened, and nothing failed
-opened_kept : (link : Link) (coding : Coding) (called : Call) (direction : Direction) (mark after former kept : Option End) (old new : SessionValue) (transfer : TransferValue) → OpensOne link coding called direction mark after former kept old new (Ok transfer) → Caught link.tells old new None
-opened_kept link coding called direction mark after former kept old new transfer (keeps, opens) =
-    caught_on link.tells old opens.given new None (step_kept link coding called old opens.given Opened (λ fault. fault) opens.plays) (same_kept link.tells opens.given new (ap (λ v. v.channel) opens.hands.new_is))
-
 -- What stops the bytes of a file
 
 copy_stops : (tells : Type 0) (text : Bool) (source source' : Option (List ℕ)) (old new : TransferValue) (fault : FtpError) → GaveUp tells text source source' old new fault → IsGrave fault → CopyStops tells text source source' fault old new
@@ -122,11 +123,11 @@ save_stops tells writer writer' old new fault fails grave = go fails.cause
 
 -- Whole files
 
-module _ (opens ends : Link) (same : opens.tells → ends.tells) (coding : Coding) (called : Call) (sort : IsOpening called) (only : OpensOnly (row_of called Second)) (mark after former kept : Option End) (old new : SessionValue) where
+module _ (opens ends : Link) (same : opens.tells → ends.tells) (coding : Coding) (called : Call) (none : sends called ≡ false) (mark after former kept : Option End) (old new : SessionValue) where
   -- a session that opened a transfer, with the data connection of one
-  kept_beside : (direction : Direction) (between marked : Option End) (given : SessionValue) (transfer over : TransferValue) → OpensOne opens coding called direction between marked former kept (as_seen between old) given (Ok transfer) → Caught opens.tells old (with_data (Some over.told) given) None
-  kept_beside direction between marked given transfer over opened =
-      caught_on opens.tells old given (with_data (Some over.told) given) None (seen_kept opens.tells between old given (opened_kept opens coding called direction between marked former kept (as_seen between old) given transfer opened)) (same_kept opens.tells given (with_data (Some over.told) given) refl)
+  kept_beside : (direction : Direction) (between marked : Option End) (given : SessionValue) (transfer over : TransferValue) → OpensOne opens coding called direction between marked former kept (as_seen between old) given (Ok transfer) → Kept opens.tells old (with_data (Some over.told) given)
+  kept_beside direction between marked given transfer over (keeps, opened) =
+      kept_to opens old opened.given (with_data (Some over.told) given) (calm_on opens old (as_seen between old) opened.given (calm_seen opens between old) (step_calm opens coding called (as_seen between old) opened.given Opened (λ fault. fault) opened.plays)) (ap (λ v. v.channel) opened.hands.new_is)
 
   pub upload_counts : (source source' : Option (List ℕ)) (result : Result ℕ FtpError) → Puts opens ends coding called source source' mark after former kept old new result → IfErr result (λ fault. CountsUpload opens ends coding called source source' mark former kept old new fault)
   upload_counts source source' result puts = go puts.goes_on
@@ -160,7 +161,7 @@ module _ (opens ends : Link) (same : opens.tells → ends.tells) (coding : Codin
 
       go : PutsFrom opens ends coding called source source' puts.between after former kept (as_seen puts.between old) new result → P result
       go (inl s) = stores s
-      go (inr (fault, is, opened, none)) = subst P (sym is) (of_opening opens _ old new fault (opened_reasons opens coding called sort only Upload mark after former kept old new (Err fault) (record { between = puts.between; looks = puts.looks; goes_on = opened })))
+      go (inr (fault, is, opened, none)) = subst P (sym is) (of_opening opens _ old new fault (opened_reasons opens coding called none Upload mark after former kept old new (Err fault) (record { between = puts.between; looks = puts.looks; goes_on = opened })))
 
   pub download_counts : {T : Type 0} (Reads : TransferValue → Result T FtpError → TransferValue → Type 0) (result : Result T FtpError) → Retrieves opens ends coding called Reads mark after former kept old new result → IfErr result (λ fault. CountsDownload opens ends coding called Reads mark former kept old new fault)
   download_counts {T} Reads result retrieves = go retrieves.goes_on
@@ -191,7 +192,7 @@ module _ (opens ends : Link) (same : opens.tells → ends.tells) (coding : Codin
 
       go : RetrievesFrom opens ends coding called Reads retrieves.between after former kept (as_seen retrieves.between old) new result → P result
       go (inl s) = reads s
-      go (inr (fault, is, opened)) = subst P (sym is) (of_opening opens _ old new fault (opened_reasons opens coding called sort only Download mark after former kept old new (Err fault) (record { between = retrieves.between; looks = retrieves.looks; goes_on = opened })))
+      go (inr (fault, is, opened)) = subst P (sym is) (of_opening opens _ old new fault (opened_reasons opens coding called none Download mark after former kept old new (Err fault) (record { between = retrieves.between; looks = retrieves.looks; goes_on = opened })))
 
   pub saving_counts : (writer writer' : Option (List ℕ)) (result : Result ℕ FtpError) → WritesTo opens ends coding called writer writer' mark after former kept old new result → IfErr result (λ fault. CountsSaving opens ends coding called writer writer' mark former kept old new fault)
   saving_counts writer writer' result writes = go writes.goes_on
@@ -222,4 +223,4 @@ module _ (opens ends : Link) (same : opens.tells → ends.tells) (coding : Codin
 
       go : WritesFrom opens ends coding called writer writer' writes.between after former kept (as_seen writes.between old) new result → P result
       go (inl s) = receives s
-      go (inr (fault, is, opened, none)) = subst P (sym is) (of_opening opens _ old new fault (opened_reasons opens coding called sort only Download mark after former kept old new (Err fault) (record { between = writes.between; looks = writes.looks; goes_on = opened })))
+      go (inr (fault, is, opened, none)) = subst P (sym is) (of_opening opens _ old new fault (opened_reasons opens coding called none Download mark after former kept old new (Err fault) (record { between = writes.between; looks = writes.looks; goes_on = opened })))

@@ -28,21 +28,23 @@ use Rattle.ftp_session.specs.Handed.{PlaysSeen, as_seen}
 use Rattle.ftp_session.specs.Securing.{AfterChange, Changes, ChangesThen, ChangesTo, Clears, CommandThen, OnAccepted, Protects, ProtectsData, Secures, SecuresFrom, ClearsFrom, failed_if, secured, unchanged}
 use Rattle.ftp_session.specs.Trees.{reply_tree}
 use Rattle.ftp_session.proofs.Commands.{plays_seen}
-use Rattle.ftp_session.proofs.Counting.{plain_counts, seen_channel}
-use Rattle.ftp_session.proofs.Failures.{Caught, after_none, of_channel, of_one}
-use Rattle.ftp_session.proofs.Kept.{seen_kept, step_kept}
+use Rattle.ftp_session.proofs.Backed.{one_light}
+use Rattle.ftp_session.proofs.Calm.{Calm, calm_on, calm_seen}
+use Rattle.ftp_session.proofs.EveryStage.{Never}
+use Rattle.ftp_session.proofs.Grounds.{Grounds, after_calm, never_to, step_calm, told_as, told_light, told_one}
+use Rattle.ftp_session.proofs.Reasons.{plain_grounds, to_counts}
 use Rattle.ftp_session.proofs.Trees.{reply_is}
 
+-- the reasons of an error that a call without another gives
+abbrev Counts : Link → SessionValue → SessionValue → FtpError → Type 0
+Counts link old new fault = Grounds link ⊥ Never old new (Fault fault)
+
+error_as : (fault why : FtpError) → ◌≡◌ {A = Result (Unit {0}) FtpError} (Err fault) (Err why) → Fault fault ≡ Fault why
+error_as fault why is = (let same : fault ≡ why = cc in ap Fault same)
+
 -- what is known of an error that is no other
-same_error : (tells : Type 0) (old middle new : SessionValue) (fault why : FtpError) → new.channel.told ≡ middle.channel.told → ◌≡◌ {A = Result (Unit {0}) FtpError} (Err fault) (Err why) → CountsFaults tells old middle (Fault why) → CountsFaults tells old new (Fault fault)
-same_error tells old middle new fault why told is counts =
-    let same : fault ≡ why = cc in
-    record {
-      counted = λ kind io h.
-          let P : Told → Type 0 = λ t. CountsFailure old.channel.told t in
-          subst P (sym told) (counts.counted kind (ap Fault (sym same) ∙ io) h);
-      had_failed = λ failed. counts.had_failed (ap Fault (sym same) ∙ failed);
-    }
+same_error : (link : Link) (old middle new : SessionValue) (fault why : FtpError) → new.channel.told ≡ middle.channel.told → ◌≡◌ {A = Result (Unit {0}) FtpError} (Err fault) (Err why) → Counts link old middle why → Counts link old new fault
+same_error link old middle new fault why told is counts = told_as link ⊥ Never old new (Fault fault) (Fault why) (error_as fault why is) (never_to link old middle new (Fault why) told counts)
 
 told_if : (late : Bool) (v : SessionValue) → (failed_if late v).channel.told ≡ v.channel.told
 told_if true v = refl
@@ -55,33 +57,33 @@ module _ (link : Link) (coding : Coding) (line : List ℕ) (status : Status) (ma
   custom_seen told plays =
       plays_seen link coding (CustomCommand line (status ∷ [])) false (reply_tree coding (Custom line) (Given (status ∷ []))) mark after old new told (reply_is coding (CustomCommand line (status ∷ [])) (Custom line) (Given (status ∷ [])) refl) refl plays
 
-  command_counts : (fault : FtpError) → PlaysCommand link (reply_tree coding (Custom line) (Given (status ∷ []))) mark after old new (Fault fault) → CountsFaults link.tells old new (Fault fault)
-  command_counts fault plays = plain_counts link coding (CustomCommand line (status ∷ [])) mark after old new (Fault fault) (refl, refl, refl) (custom_seen (Fault fault) plays)
+  command_counts : (fault : FtpError) → PlaysCommand link (reply_tree coding (Custom line) (Given (status ∷ []))) mark after old new (Fault fault) → Counts link old new fault
+  command_counts fault plays = plain_grounds link coding (CustomCommand line (status ∷ [])) mark after old new (Fault fault) (refl, refl, refl) (custom_seen (Fault fault) plays)
 
-  command_kept : (reply : Response) → PlaysCommand link (reply_tree coding (Custom line) (Given (status ∷ []))) mark after old new (Reply reply) → Caught link.tells old new None
-  command_kept reply plays =
+  command_calm : (reply : Response) → PlaysCommand link (reply_tree coding (Custom line) (Given (status ∷ []))) mark after old new (Reply reply) → Calm link old new
+  command_calm reply plays =
       let seen = custom_seen (Reply reply) plays in
-      seen_kept link.tells after old new (step_kept link coding (CustomCommand line (status ∷ [])) (as_seen after old) new (Reply reply) (λ fault. fault) seen.plays)
+      calm_on link old (as_seen after old) new (calm_seen link after old) (step_calm link coding (CustomCommand line (status ∷ [])) (as_seen after old) new (Reply reply) (λ fault. fault) seen.plays)
 
 -- it isn't, or what follows it ends with the error
-command_cases : {R : Type 0} (late : Bool) (link : Link) (coding : Coding) (line : List ℕ) (status : Status) (Next : Option End → SessionValue → Type 0) (mark after : Option End) (old new : SessionValue) (fault : FtpError) → CommandThen late link coding line status Next mark after old new (Err fault) → (CountsFaults link.tells old new (Fault fault) → R) → ((between : Option End) (at : SessionValue) (reply : Response) → PlaysCommand link (reply_tree coding (Custom line) (Given (status ∷ []))) mark between old at (Reply reply) → Next between at → R) → R
+command_cases : {R : Type 0} (late : Bool) (link : Link) (coding : Coding) (line : List ℕ) (status : Status) (Next : Option End → SessionValue → Type 0) (mark after : Option End) (old new : SessionValue) (fault : FtpError) → CommandThen late link coding line status Next mark after old new (Err fault) → (Counts link old new fault → R) → ((between : Option End) (at : SessionValue) (reply : Response) → PlaysCommand link (reply_tree coding (Custom line) (Given (status ∷ []))) mark between old at (Reply reply) → Next between at → R) → R
 command_cases {R} late link coding line status Next mark after old new fault command fails goes_on = go command.reply command.plays command.later
   where
     go : (reply : Result Response FtpError) → PlaysCommand link (reply_tree coding (Custom line) (Given (status ∷ []))) mark command.between old command.middle (reply_answer reply) → OnAccepted late Next reply command.between after command.middle new (Err fault) → R
     go (Ok reply) plays next = goes_on command.between command.middle reply plays next
-    go (Err why) plays stops = fails (same_error link.tells old command.middle new fault why (ap (λ v. v.channel.told) stops.2 ∙ told_if late command.middle) stops.0 (command_counts link coding line status mark command.between old command.middle why plays))
+    go (Err why) plays stops = fails (same_error link old command.middle new fault why (ap (λ v. v.channel.told) stops.2 ∙ told_if late command.middle) stops.0 (command_counts link coding line status mark command.between old command.middle why plays))
 
 -- Protected data connections
 
-protect_counts : (link : Link) (coding : Coding) (mark after : Option End) (old new : SessionValue) (fault : FtpError) → Protects link coding mark after old new (Err fault) → CountsFaults link.tells old new (Fault fault)
+protect_counts : (link : Link) (coding : Coding) (mark after : Option End) (old new : SessionValue) (fault : FtpError) → Protects link coding mark after old new (Err fault) → Counts link old new fault
 protect_counts link coding mark after old new fault protects =
     command_cases true link coding (codes "PBSZ 0") CommandOk (λ between middle. ProtectsData link coding between after middle new (Err fault)) mark after old new fault protects (λ counts. counts) then
   where
-    then : (between : Option End) (at : SessionValue) (reply : Response) → PlaysCommand link (reply_tree coding (Custom (codes "PBSZ 0")) (Given (CommandOk ∷ []))) mark between old at (Reply reply) → ProtectsData link coding between after at new (Err fault) → CountsFaults link.tells old new (Fault fault)
+    then : (between : Option End) (at : SessionValue) (reply : Response) → PlaysCommand link (reply_tree coding (Custom (codes "PBSZ 0")) (Given (CommandOk ∷ []))) mark between old at (Reply reply) → ProtectsData link coding between after at new (Err fault) → Counts link old new fault
     then between at reply plays protects =
-        let kept = command_kept link coding (codes "PBSZ 0") CommandOk mark between old at reply plays in
+        let calm = command_calm link coding (codes "PBSZ 0") CommandOk mark between old at reply plays in
         command_cases true link coding (codes "PROT P") CommandOk (λ last v. ◌≡◌ {A = Result (Unit {0}) FtpError} (Err fault) (Ok tt) × (after ≡ last) × (new ≡ v)) between after at new fault protects
-        (λ counts. after_none link.tells old at new (Fault fault) kept.0 kept.1 counts)
+        (λ counts. after_calm link ⊥ Never old at new (Fault fault) calm counts)
         (λ last v reply plays next. (let wrong : ◌≡◌ {A = Result (Unit {0}) FtpError} (Err fault) (Ok tt) = next.0 in cc))
 
 -- The change
@@ -98,27 +100,21 @@ under_goes tells handshake told change old middle new fault changes is counts =
 
 module _ (link : Link) (handshake : Told → Result Told FtpError → Type 0) (coding : Coding) (mark after : Option End) (old new : SessionValue) (fault : FtpError) where
   -- the control connection as it was, seen or not
-  of_seen : (seen : Option End) → CountsFaults link.tells (as_seen seen old) new (Fault fault) → CountsFaults link.tells old new (Fault fault)
-  of_seen seen counts = of_channel link.tells (as_seen seen old) old new new (Fault fault) (sym (seen_channel _ old)) refl counts
+  of_seen : (seen : Option End) → Counts link (as_seen seen old) new fault → Counts link old new fault
+  of_seen seen counts = after_calm link ⊥ Never old (as_seen seen old) new (Fault fault) (calm_seen link seen old) counts
 
-  beside_counts : ◌≡◌ {A = Result (Unit {0}) FtpError} (Err fault) (Err faults.DataConnectionAlreadyOpen) → CountsFaults link.tells old new (Fault fault)
-  beside_counts is =
-      let P : FtpError → Type 0 = λ f. CountsFaults link.tells old new (Fault f) in
-      let same : faults.DataConnectionAlreadyOpen ≡ fault = cc in
-      subst P same (of_one link.tells old new faults.DataConnectionAlreadyOpen (λ grave. grave))
+  beside_counts : ◌≡◌ {A = Result (Unit {0}) FtpError} (Err fault) (Err faults.DataConnectionAlreadyOpen) → Counts link old new fault
+  beside_counts is = told_as link ⊥ Never old new (Fault fault) (Fault faults.DataConnectionAlreadyOpen) (error_as fault faults.DataConnectionAlreadyOpen is) (told_light link ⊥ Never old new (Fault faults.DataConnectionAlreadyOpen) (one_light faults.DataConnectionAlreadyOpen (λ grave. grave)))
 
-  withheld_counts : (v : SessionValue) → ◌≡◌ {A = Result (Unit {0}) FtpError} (Err fault) (Err (withheld v)) → CountsFaults link.tells v new (Fault fault)
-  withheld_counts v is =
-      let P : FtpError → Type 0 = λ f. CountsFaults link.tells v new (Fault f) in
-      let same : withheld v ≡ fault = cc in
-      subst P same (go v.channel.failed refl)
+  withheld_counts : (v : SessionValue) → ◌≡◌ {A = Result (Unit {0}) FtpError} (Err fault) (Err (withheld v)) → Counts link v new fault
+  withheld_counts v is = told_as link ⊥ Never v new (Fault fault) (Fault (withheld v)) (error_as fault (withheld v) is) (go v.channel.failed refl)
     where
-      go : (b : Bool) → v.channel.failed ≡ b → CountsFaults link.tells v new (Fault (cond b faults.SessionFailed faults.OutOfMemory))
-      go true failed = record { counted = λ kind wrong. (let both : Fault faults.SessionFailed ≡ Fault (faults.ConnectionError (cause.Io kind)) = wrong in cc both); had_failed = λ told. failed }
-      go false going = of_one link.tells v new faults.OutOfMemory (λ grave. grave)
+      go : (b : Bool) → v.channel.failed ≡ b → Counts link v new (cond b faults.SessionFailed faults.OutOfMemory)
+      go true failed = told_one link ⊥ Never v new faults.SessionFailed (inl failed)
+      go false going = told_light link ⊥ Never v new (Fault faults.OutOfMemory) (one_light faults.OutOfMemory (λ grave. grave))
 
-  before_counts : CountsFaults link.tells old new (Fault fault) → CountsSecuring link handshake coding mark old new fault
-  before_counts counts = record { counted = λ kind is h. inl (counts.counted kind (ap Fault is) h); had_failed = λ is. inl (counts.had_failed (ap Fault is)) }
+  before_counts : Counts link old new fault → CountsSecuring link handshake coding mark old new fault
+  before_counts reasons = let counts = to_counts link old new (Fault fault) reasons in record { counted = λ kind is h. inl (counts.counted kind (ap Fault is) h); had_failed = λ is. inl (counts.had_failed (ap Fault is)) }
 
   pub secures_count : Secures link handshake coding mark after old new (Err fault) → CountsSecuring link handshake coding mark old new fault
   secures_count secures = go secures.secures
@@ -141,7 +137,7 @@ module _ (link : Link) (handshake : Told → Result Told FtpError → Type 0) (c
               let same : why ≡ fault = (let both : ◌≡◌ {A = Result (Unit {0}) FtpError} (Err fault) (Err why) = stops.0 in cc both) in
               gave (subst P same fails.made)
           then (Ok done) made protects =
-              let counts = protect_counts link coding between after changes.middle new fault protects in
+              let counts = to_counts link changes.middle new (Fault fault) (protect_counts link coding between after changes.middle new fault protects) in
               record {
                 counted = λ kind is h. inr (once (λ told. FailsInChange handshake fault told new.channel.told) (under_counts link.tells handshake made.0 secured at changes.middle new fault kind made.1 is h counts));
                 had_failed = λ is. under_goes link.tells handshake made.0 secured at changes.middle new fault made.1 is counts;
@@ -154,8 +150,8 @@ module _ (link : Link) (handshake : Told → Result Told FtpError → Type 0) (c
           command_cases false link coding (codes "AUTH TLS") AuthOk (λ between middle. ChangesThen link handshake coding between after middle new (Err fault)) secures.seen after (as_seen secures.seen old) new fault command
           (λ counts. before_counts (of_seen secures.seen counts)) accepted
 
-  clear_counts : CountsFaults link.tells old new (Fault fault) → CountsClearing link handshake coding mark old new fault
-  clear_counts counts = record { counted = λ kind is h. inl (counts.counted kind (ap Fault is) h); had_failed = λ is. inl (counts.had_failed (ap Fault is)) }
+  clear_counts : Counts link old new fault → CountsClearing link handshake coding mark old new fault
+  clear_counts reasons = let counts = to_counts link old new (Fault fault) reasons in record { counted = λ kind is h. inl (counts.counted kind (ap Fault is) h); had_failed = λ is. inl (counts.had_failed (ap Fault is)) }
 
   pub clears_count : Clears link handshake coding mark after old new (Err fault) → CountsClearing link handshake coding mark old new fault
   clears_count clears = go clears.clears

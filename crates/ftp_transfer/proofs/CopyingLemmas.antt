@@ -1,5 +1,5 @@
 -- Lemmas on a source that is copied to a transfer.
-use Rattle.std.proofs.Common.{◌≡◌, ◌<◌, ◌+◌, ◌-◌, ◌⊎◌, ℕ, Bool, true, false, List, [], ◌++◌, Option, Result, Ok, Err, inl, inr, refl, ap, sym, subst, ◌∙◌, length, take, drop, arith, append_assoc, append-nil, take-append-drop}
+use Rattle.std.proofs.Common.{◌≡◌, ◌==◌, ◌<◌, ◌+◌, ◌-◌, ◌⊎◌, ℕ, Bool, true, false, List, [], ◌∷◌, ◌++◌, Option, Result, Ok, Err, inl, inr, refl, ap, sym, subst, ◌∙◌, length, take, drop, arith, append_assoc, append-nil, take-append-drop}
 use Rattle.std.proofs.Math.Seq.{take-add}
 use Rattle.std.proofs.lemmas.List.{length-append, take_rest}
 use Rattle.std.proofs.KnownBytes.{Consumes-kept, Consumes-nil, Consumes-trans}
@@ -169,3 +169,8 @@ text_sent tells before piece bytes after old new count (Err fault) adds last (wr
 pub gives_up_as : (tells : Type 0) (text : Bool) (r s : Option (List ℕ)) (old new : TransferValue) (fault : FtpError) (result : Result ℕ FtpError) → IsErr result → IsErrAnd result (λ f. f ≡ fault) → GaveUp tells text r s old new fault → Copies tells text r s old new result
 gives_up_as tells text r s old new fault (Ok count) fails is gave = let clash : false ≡ true = fails in cc
 gives_up_as tells text r s old new fault (Err other) fails is gave = subst (λ f. GaveUp tells text r s old new f) (sym is) gave
+
+-- a piece that isn't empty
+pub length_some : (bytes : List ℕ) → false ≡ (length bytes == 0) → 0 < length bytes
+length_some [] some = let clash : false ≡ true = some in cc
+length_some (byte ∷ bytes) some = omega arith

@@ -12,7 +12,6 @@ use Rattle.ftp_base.specs.declared.types.fault.FtpError.TheVariants.{ConnectionE
 use Rattle.ftp_base.specs.declared.types.fault.ConnectionError.TheVariants.{Io, SourceTooLarge}
 use Rattle.ftp_transport.specs.Told.{HasFailed, Told, after_end, after_read}
 use Rattle.ftp_transfer.specs.Saving.{Gave, SaveFails, Saves, StopsAt}
-use Rattle.ftp_session.specs.Files.{Receives, WritesTo}
 use Rattle.ftp_transfer.specs.Transfer.{TransferValue, with_told}
 
 -- a read that gave bytes

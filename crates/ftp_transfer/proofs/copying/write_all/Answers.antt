@@ -1,7 +1,6 @@
 use Rattle.std.proofs.Common.{◌<◌, ◌++◌, ap, length, take}
-use Rattle.ftp_dialogue.proofs.UnsentLemmas.{length_some}
 use Rattle.ftp_transfer.specs.Copying.{Wrote}
-use Rattle.ftp_transfer.proofs.CopyingLemmas.{moves_front, wrote_more}
+use Rattle.ftp_transfer.proofs.CopyingLemmas.{length_some, moves_front, wrote_more}
 use Rattle.ftp_transfer.proofs.copying.write_all.Goals as goal
 
 pub loop-rest-preserved : goal.loop-rest-preserved

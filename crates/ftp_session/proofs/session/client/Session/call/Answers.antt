@@ -1,5 +1,5 @@
 use Rattle.ftp_dialogue.proofs.CatchingUpLemmas.{plays_in_step}
-use Rattle.ftp_session.proofs.Counting.{plain_counts}
+use Rattle.ftp_session.proofs.Reasons.{plain_counts}
 use Rattle.ftp_session.proofs.Handed.{seen_plays}
 use Rattle.ftp_session.proofs.session.client.Session.call.Goals as goal
 

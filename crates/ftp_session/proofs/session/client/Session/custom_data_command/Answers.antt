@@ -8,4 +8,4 @@ pub returns-clause-opens : goal.returns-clause-opens
 returns-clause-opens g c = opens_replied _ _ _ _ _ _ _ _ _ _ _ _ c.with_reply.ensures c.open.ensures.opens
 
 pub returns-clause-counts : goal.returns-clause-counts
-returns-clause-counts g c = replied_reasons _ _ (CustomDataCommand c.args.line.now c.args.expected.now) (refl, refl, refl) tt _ _ _ _ _ _ _ _ (returns-clause-opens g c)
+returns-clause-counts g c = replied_reasons _ _ (CustomDataCommand c.args.line.now c.args.expected.now) refl _ _ _ _ _ _ _ _ (returns-clause-opens g c)

@@ -12,4 +12,4 @@ pub returns-clause-fetches : goal.returns-clause-fetches
 returns-clause-fetches g c = rw c.lines.ensures c.fetch.ensures.plays
 
 pub returns-clause-counts : goal.returns-clause-counts
-returns-clause-counts g c = rw c.lines.ensures (opening_reasons _ _ (Mlsd (option_map (λ text. text.now) c.args.path)) _ _ _ _ _ (refl, refl, refl) tt c.fetch.ensures.plays)
+returns-clause-counts g c = rw c.lines.ensures (opening_reasons _ _ (Mlsd (option_map (λ text. text.now) c.args.path)) refl _ _ _ _ _ c.fetch.ensures.plays)

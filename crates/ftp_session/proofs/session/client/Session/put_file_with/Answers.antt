@@ -11,7 +11,7 @@ returns-in-Ok-clause-puts g c =
     rw c.store.ensures.keeps.former (puts_on _ _ _ _ _ c.put_with_stream.new.self.mark _ _ c.put_with_stream.new.self.former _ c.put_with_stream.new.self.machine _ c.in-Ok.transfer _ _ _ opened stores)
 
 pub returns-in-Ok-clause-counts : goal.returns-in-Ok-clause-counts
-returns-in-Ok-clause-counts g c = upload_counts _ _ (λ h. h) _ (PutWithStream c.args.path.now) (refl, refl, refl) tt _ _ _ _ _ _ _ _ _ (returns-in-Ok-clause-puts g c)
+returns-in-Ok-clause-counts g c = upload_counts _ _ (λ h. h) _ (PutWithStream c.args.path.now) refl _ _ _ _ _ _ _ _ _ (returns-in-Ok-clause-puts g c)
 
 pub returns-in-Err-clause-counts : goal.returns-in-Err-clause-counts
 returns-in-Err-clause-counts g c = of_opening _ _ _ _ _ c.in-Err.ensures.counts

@@ -11,7 +11,7 @@ returns-in-Ok-clause-retrieves g c =
     rw (c.finish_whole.ensures.keeps.former, c.note.ensures.keeps.former) (retrieves_on _ _ _ _ _ c.retr_as_stream.new.self.mark _ _ c.retr_as_stream.new.self.former _ c.retr_as_stream.new.self.machine _ c.in-Ok.transfer g.F.DownloadReader.reads c.read-read.new.transfer c.read-read.result c.first_of.result c.finish_whole.result opened c.read-read.ensures ends_it c.first_of.ensures)
 
 pub returns-in-Ok-clause-counts : goal.returns-in-Ok-clause-counts
-returns-in-Ok-clause-counts g c = download_counts _ _ (λ h. h) _ (RetrAsStream c.args.path.now) (refl, refl, refl) tt _ _ _ _ _ _ _ _ (returns-in-Ok-clause-retrieves g c)
+returns-in-Ok-clause-counts g c = download_counts _ _ (λ h. h) _ (RetrAsStream c.args.path.now) refl _ _ _ _ _ _ _ _ (returns-in-Ok-clause-retrieves g c)
 
 pub returns-in-Err-clause-counts : goal.returns-in-Err-clause-counts
 returns-in-Err-clause-counts g c = of_opening _ _ _ _ _ c.in-Err.ensures.counts

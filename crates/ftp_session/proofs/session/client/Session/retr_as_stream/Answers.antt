@@ -8,4 +8,4 @@ pub returns-clause-opens : goal.returns-clause-opens
 returns-clause-opens g c = rw c.without_reply.ensures (opens_plain _ _ _ _ _ _ _ _ _ _ _ c.open.ensures.opens)
 
 pub returns-clause-counts : goal.returns-clause-counts
-returns-clause-counts g c = opened_reasons _ _ (RetrAsStream c.args.path.now) (refl, refl, refl) tt _ _ _ _ _ _ _ _ (returns-clause-opens g c)
+returns-clause-counts g c = opened_reasons _ _ (RetrAsStream c.args.path.now) refl _ _ _ _ _ _ _ _ (returns-clause-opens g c)

@@ -2,7 +2,7 @@ use Rattle.std.proofs.Common.{true}
 use Rattle.std.specs.Prelude.{Ok}
 use Rattle.ftp_dialogue.proofs.CatchingUpLemmas.{plays_in_step}
 use Rattle.ftp_session.proofs.Handed.{begins_left, drain_answer_is, settles_by}
-use Rattle.ftp_session.proofs.Counting.{settles_count}
+use Rattle.ftp_session.proofs.Reasons.{settles_count}
 use Rattle.ftp_session.proofs.session.client.Session.settle.Goals as goal
 
 pub settle-requires : goal.settle-requires

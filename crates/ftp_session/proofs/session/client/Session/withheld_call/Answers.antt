@@ -2,7 +2,7 @@ use Rattle.std.proofs.Common.{refl}
 use Rattle.ftp_calls.specs.declared.call.Call.TheVariants.{Noop}
 use Rattle.ftp_dialogue.specs.Coding.{chosen}
 use Rattle.ftp_dialogue.specs.Link.{Link, link}
-use Rattle.ftp_session.proofs.Counting.{plain_counts}
+use Rattle.ftp_session.proofs.Reasons.{plain_counts}
 use Rattle.ftp_session.proofs.Handed.{seen_plays}
 use Rattle.ftp_dialogue.proofs.CatchingUpLemmas.{withheld_in_step}
 use Rattle.ftp_session.proofs.session.client.Session.withheld_call.Goals as goal

@@ -11,7 +11,7 @@ returns-in-Ok-clause-writes g c =
     rw c.receive.ensures.keeps.former (writes_on _ _ _ _ _ c.retr_as_stream.new.self.mark _ _ c.retr_as_stream.new.self.former _ c.retr_as_stream.new.self.machine _ c.in-Ok.transfer _ _ _ opened receives)
 
 pub returns-in-Ok-clause-counts : goal.returns-in-Ok-clause-counts
-returns-in-Ok-clause-counts g c = saving_counts _ _ (λ h. h) _ (RetrAsStream c.args.path.now) (refl, refl, refl) tt _ _ _ _ _ _ _ _ _ (returns-in-Ok-clause-writes g c)
+returns-in-Ok-clause-counts g c = saving_counts _ _ (λ h. h) _ (RetrAsStream c.args.path.now) refl _ _ _ _ _ _ _ _ _ (returns-in-Ok-clause-writes g c)
 
 pub returns-in-Err-clause-counts : goal.returns-in-Err-clause-counts
 returns-in-Err-clause-counts g c = of_opening _ _ _ _ _ c.in-Err.ensures.counts

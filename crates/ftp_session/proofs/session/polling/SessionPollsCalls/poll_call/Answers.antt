@@ -1,7 +1,6 @@
 use Rattle.std.proofs.Common.{rules}
 use Rattle.futures.specs.declared.task.Poll.TheVariants.{Ready, Pending}
-use Rattle.ftp_session.proofs.PollCauses.{polls_caused}
-use Rattle.ftp_session.proofs.PolledCounts.{polls_counted}
+use Rattle.ftp_session.proofs.PollGrounds.{polls_caused, polls_counted}
 use Rattle.ftp_session.proofs.PolledLemmas.{polls_seen}
 use Rattle.ftp_session.proofs.session.polling.SessionPollsCalls.poll_call.Goals as goal
 
