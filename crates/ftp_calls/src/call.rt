@@ -132,64 +132,6 @@ pub enum Call {
     Drain,
 }
 
-impl Call {
-    /// The same call, with texts of its own.
-    ///
-    /// # Errors
-    /// No memory for the texts.
-    pub fn copied(&self) -> Result<Call, AllocError>
-        ensures { IfOk result (λ copy. copy ≡ self.now) }
-    {
-        match self {
-            Call::Greet => Ok(Call::Greet),
-            Call::Login(user, password) => Ok(Call::Login(user.clone()?, password.clone()?)),
-            Call::Cwd(path) => Ok(Call::Cwd(path.clone()?)),
-            Call::Cdup => Ok(Call::Cdup),
-            Call::Pwd => Ok(Call::Pwd),
-            Call::Noop => Ok(Call::Noop),
-            Call::Resync => Ok(Call::Resync),
-            Call::Eprt(address) => Ok(Call::Eprt(*address)),
-            Call::Opts(name, value) => Ok(Call::Opts(name.clone()?, value.clone()?)),
-            Call::Site(words) => Ok(Call::Site(words.clone()?)),
-            Call::TransferType(kind) => Ok(Call::TransferType(kind.clone()?)),
-            Call::Mkdir(path) => Ok(Call::Mkdir(path.clone()?)),
-            Call::Rmdir(path) => Ok(Call::Rmdir(path.clone()?)),
-            Call::Rm(path) => Ok(Call::Rm(path.clone()?)),
-            Call::Rename(from, to) => Ok(Call::Rename(from.clone()?, to.clone()?)),
-            Call::Quit => Ok(Call::Quit),
-            Call::Mlst(path) => Ok(Call::Mlst(path.clone()?)),
-            Call::Mdtm(path) => Ok(Call::Mdtm(path.clone()?)),
-            Call::Size(path) => Ok(Call::Size(path.clone()?)),
-            Call::Feat => Ok(Call::Feat),
-            Call::CustomCommand(line, codes) => {
-                Ok(Call::CustomCommand(line.clone()?, codes.clone()?))
-            }
-            Call::ReadResponse(status) => Ok(Call::ReadResponse(*status)),
-            Call::ReadResponseIn(codes) => Ok(Call::ReadResponseIn(codes.clone()?)),
-            Call::ResumeTransfer(offset) => Ok(Call::ResumeTransfer(*offset)),
-            Call::RetrAsStream(path) => Ok(Call::RetrAsStream(path.clone()?)),
-            Call::PutWithStream(path) => Ok(Call::PutWithStream(path.clone()?)),
-            Call::AppendWithStream(path) => Ok(Call::AppendWithStream(path.clone()?)),
-            Call::CustomDataCommand(line, codes) => {
-                Ok(Call::CustomDataCommand(line.clone()?, codes.clone()?))
-            }
-            Call::Retr(path) => Ok(Call::Retr(path.clone()?)),
-            Call::List(path) => Ok(Call::List(path.clone()?)),
-            Call::Nlst(path) => Ok(Call::Nlst(path.clone()?)),
-            Call::Mlsd(path) => Ok(Call::Mlsd(path.clone()?)),
-            Call::PutFile(path, bytes) => Ok(Call::PutFile(path.clone()?, bytes.clone()?)),
-            Call::AppendFile(path, bytes) => Ok(Call::AppendFile(path.clone()?, bytes.clone()?)),
-            Call::Set(setting) => Ok(Call::Set(setting.clone()?)),
-            Call::Read(most) => Ok(Call::Read(*most)),
-            Call::Write(bytes) => Ok(Call::Write(bytes.clone()?)),
-            Call::Finish => Ok(Call::Finish),
-            Call::Abort => Ok(Call::Abort),
-            Call::Leave => Ok(Call::Leave),
-            Call::Drain => Ok(Call::Drain),
-        }
-    }
-}
-
 /// What a call does by itself, at its first turn or at its last, with texts of its own.
 ///
 /// # Errors
