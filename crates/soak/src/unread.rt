@@ -19,6 +19,7 @@ const TIME: usize = 14;
 #[derive(Drop)]
 pub struct Unread {
     bytes: Vec<u8>,
+    /// How they end.
     pub ending: Ending,
 }
 
