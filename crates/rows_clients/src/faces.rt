@@ -1,6 +1,7 @@
 //! The ways in which a row is played.
 
-use crate::{client, definition, script, states};
+use crate::whole::whole;
+use crate::{client, states};
 use ftp_runs::Event;
 use ftp_session::session::Call;
 use rows_plays::{Ending, Mark, Play, RowState};
@@ -12,10 +13,6 @@ use std::sync::Wait;
 /// A way in which a row is played.
 #[derive(Clone, Copy)]
 pub enum Face {
-    /// What the definition of runs says.
-    Definition,
-    /// What the definition of polled runs says.
-    Script,
     /// A run of all calls.
     Run,
     /// A run over connections that take one byte a write and give one a read.
@@ -28,6 +25,15 @@ pub enum Face {
     States,
     /// A polled run.
     Polled,
+}
+
+/// How often a row is played on a face.
+#[derive(Clone, Copy)]
+pub enum Cuts {
+    /// To the end of each call or poll, too, so that it is seen what was sent in each.
+    EachCall,
+    /// Once, to its end.
+    None,
 }
 
 /// What a row resulted in on a face.
@@ -61,9 +67,7 @@ impl Agreement {
 
 impl Face {
     /// The faces of a row without events.
-    pub const OF_CALLS: [Face; 8] = [
-        Face::Definition,
-        Face::Script,
+    pub const OF_CALLS: [Face; 6] = [
         Face::Run,
         Face::Bytewise,
         Face::Methods,
@@ -72,27 +76,12 @@ impl Face {
         Face::Polled,
     ];
 
-    /// Those of them that are sessions.
-    pub const SESSIONS_OF_CALLS: [Face; 6] = [
-        Face::Run,
-        Face::Bytewise,
-        Face::Methods,
-        Face::Client,
-        Face::States,
-        Face::Polled,
-    ];
-
-    /// The faces of a row with events.
-    pub const OF_EVENTS: [Face; 2] = [Face::Script, Face::Polled];
-
-    /// That of them that is a session.
-    pub const SESSIONS_OF_EVENTS: [Face; 1] = [Face::Polled];
+    /// The face of a row with events.
+    pub const OF_EVENTS: [Face; 1] = [Face::Polled];
 
     /// Its name.
     pub fn name(self) -> &'static str {
         match self {
-            Face::Definition => "the definition of runs",
-            Face::Script => "the definition of polled runs",
             Face::Run => "a run",
             Face::Bytewise => "a run, a byte a read and a write",
             Face::Methods => "one call after another",
@@ -106,9 +95,9 @@ impl Face {
     /// connection; a write of the data connection that is one call says how many bytes it took.
     pub fn plays(self, play: &Play) -> bool {
         match self {
-            Face::Definition | Face::Methods | Face::States => true,
+            Face::Methods | Face::States => true,
             Face::Client => client::has_methods(&play.calls),
-            Face::Run | Face::Polled | Face::Script => play.dial.is_none(),
+            Face::Run | Face::Polled => play.dial.is_none(),
             Face::Bytewise => play.dial.is_none() && !play.calls.iter().any(writes_more),
         }
     }
@@ -135,6 +124,23 @@ impl Face {
         })
     }
 
+    /// The same, played once, without the places at which its calls end.
+    pub fn play_once<R: Wait + RandomSource + AllocGlobal>(
+        self,
+        rt: &R,
+        play: &Play,
+        ending: Ending,
+    ) -> Result<Came, RowError> {
+        let alloc = rt.alloc();
+        let end = self.play_state(rt, play, usize::MAX)?;
+        let mut transcript = end.transcript(alloc, &[end.mark()])?;
+        end.add_end(alloc, &mut transcript, ending)?;
+        Ok(Came {
+            transcript: whole(alloc, transcript.as_str())?,
+            failed: end.failed,
+        })
+    }
+
     /// What the row's answers are, in place of its transcript.
     pub fn answer<R: Wait + RandomSource + AllocGlobal>(
         self,
@@ -156,7 +162,7 @@ impl Face {
         places: &[usize],
     ) -> Result<Vec<Mark>, RowError> {
         let length = match self {
-            Face::Script | Face::Polled => play.events.len(),
+            Face::Polled => play.events.len(),
             _ => play.calls.len(),
         };
         let mut marks = Vec::new(rt.alloc());
@@ -171,7 +177,7 @@ impl Face {
     /// After how many calls or events the transcript has its lines: after each call, or each poll.
     fn places(self, alloc: Global, play: &Play) -> Result<Vec<usize>, AllocError> {
         match self {
-            Face::Script | Face::Polled => polls(alloc, &play.events),
+            Face::Polled => polls(alloc, &play.events),
             _ => (1..=play.calls.len()).collect(alloc),
         }
     }
@@ -187,8 +193,6 @@ impl Face {
         let calls = front(&play.calls, count);
         let events = front(&play.events, count);
         match self {
-            Face::Definition => definition::ran(alloc, calls, play),
-            Face::Script => script::scripted(alloc, events, play),
             Face::Run => rows_plays::ran(alloc, calls, play),
             Face::Bytewise => rows_plays::ran_bytewise(alloc, calls, play),
             Face::Methods => rows_plays::called(rt, calls, play),

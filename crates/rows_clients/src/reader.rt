@@ -1,5 +1,6 @@
 //! Reads rows line by line, and has each played.
 
+use crate::faces::Cuts;
 use crate::tally::Tally;
 use anyhow::{Context, Result};
 use rows_plays::Row;
@@ -13,15 +14,17 @@ pub struct Reader<'a> {
     row: Option<Row<'a>>,
     tally: Option<Tally<'a>>,
     number: u64,
+    cuts: Cuts,
 }
 
 impl<'a> Reader<'a> {
-    /// Nothing was read.
-    pub fn new() -> Reader<'a> {
+    /// Nothing was read; each row will be played so often.
+    pub fn new(cuts: Cuts) -> Reader<'a> {
         Reader {
             row: None,
             tally: None,
             number: 0,
+            cuts,
         }
     }
 
@@ -72,13 +75,13 @@ impl<'a> Reader<'a> {
     /// What was counted of a set; what was counted of the one before is printed.
     fn tally_of<R: Print>(&mut self, rt: &R, set: &'a str) -> Result<Tally<'a>> {
         let Some(tally) = self.tally.take() else {
-            return Ok(Tally::new(set));
+            return Ok(Tally::new(set, self.cuts));
         };
         if tally.set == set {
             return Ok(tally);
         }
         println!(rt; "{tally}")?;
-        Ok(Tally::new(set))
+        Ok(Tally::new(set, self.cuts))
     }
 
     /// The rows end.

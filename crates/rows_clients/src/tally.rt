@@ -1,9 +1,9 @@
 //! The rows of a set that were played, and those that differed.
 
-use crate::faces::{Agreement, Came, Face, answers_of};
+use crate::faces::{Agreement, Came, Cuts, Face, answers_of};
+use crate::whole::whole;
 use anyhow::Result;
-use rows_plays::{Ending, Lists, Play, Row};
-use rows_text::RowError;
+use rows_plays::{Play, Row};
 use std::fmt;
 use std::random::RandomSource;
 use std::sync::Wait;
@@ -16,6 +16,7 @@ pub struct Tally<'a> {
     rows: u64,
     plays: u64,
     differ: u64,
+    cuts: Cuts,
 }
 
 impl fmt::Display for Tally<'_> {
@@ -30,12 +31,13 @@ impl fmt::Display for Tally<'_> {
 
 impl<'a> Tally<'a> {
     /// No row of the set was played.
-    pub fn new(set: &'a str) -> Tally<'a> {
+    pub fn new(set: &'a str, cuts: Cuts) -> Tally<'a> {
         Tally {
             set,
             rows: 0,
             plays: 0,
             differ: 0,
+            cuts,
         }
     }
 
@@ -46,9 +48,6 @@ impl<'a> Tally<'a> {
         row: &Row<'_>,
     ) -> Result<()> {
         self.rows = self.rows.saturating_add(1);
-        if let Some(longest) = row.lists {
-            return self.play_lists(rt, row, longest);
-        }
         for lenient in [false, true] {
             self.play_by(rt, row, lenient)?;
         }
@@ -107,9 +106,18 @@ impl<'a> Tally<'a> {
         if !face.plays(play) {
             return Ok(());
         }
-        let came = face.play(rt, play, row.ending)?;
         let due = row.due()?;
-        self.compare(rt, row, face, play, agreement, due, &came)
+        match self.cuts {
+            Cuts::EachCall => {
+                let came = face.play(rt, play, row.ending)?;
+                self.compare(rt, row, face, play, agreement, due, &came)
+            }
+            Cuts::None => {
+                let came = face.play_once(rt, play, row.ending)?;
+                let due = whole(rt.alloc(), due)?;
+                self.compare(rt, row, face, play, agreement, due.as_str(), &came)
+            }
+        }
     }
 
     /// Counts a play, and prints it where it differs from what is due.
@@ -142,47 +150,6 @@ impl<'a> Tally<'a> {
         Ok(())
     }
 
-    /// Plays each list of the row's steps, of at most so many, on both faces.
-    fn play_lists<R: Wait + Print + RandomSource + AllocGlobal>(
-        &mut self,
-        rt: &R,
-        row: &Row<'_>,
-        longest: &str,
-    ) -> Result<()> {
-        let alloc = rt.alloc();
-        if row.due().is_ok() {
-            return Err(RowError::NotUnderstood.into());
-        }
-        let mut lists = Lists::new(alloc, row, longest)?;
-        for _ in 0..u64::MAX {
-            self.play_next(rt, row, &lists)?;
-            if !lists.advance()? {
-                return Ok(());
-            }
-        }
-        Ok(())
-    }
-
-    /// Plays the list that it stands at, on both faces.
-    fn play_next<R: Wait + Print + RandomSource + AllocGlobal>(
-        &mut self,
-        rt: &R,
-        row: &Row<'_>,
-        lists: &Lists<'_>,
-    ) -> Result<()> {
-        let lines = lists.lines(rt.alloc())?;
-        let play = Play::of(rt.alloc(), &lines, true, false)?;
-        let due = Face::Script.play(rt, &play, Ending::PLAIN)?;
-        let came = Face::Polled.play(rt, &play, Ending::PLAIN)?;
-        let agrees = came.transcript == due.transcript && came.failed == due.failed;
-        self.count(agrees);
-        if !agrees {
-            println!(rt; "{lines:?}, failed {}", due.failed)?;
-            show(rt, row, &due.transcript, &came)?;
-        }
-        Ok(())
-    }
-
     /// Counts a play.
     fn count(&mut self, agrees: bool) {
         self.plays = self.plays.saturating_add(1);
@@ -194,11 +161,10 @@ impl<'a> Tally<'a> {
 
 /// The faces that a row is played on.
 fn faces_of(row: &Row<'_>) -> &'static [Face] {
-    match (row.has_events, row.is_of_sessions) {
-        (false, false) => &Face::OF_CALLS,
-        (false, true) => &Face::SESSIONS_OF_CALLS,
-        (true, false) => &Face::OF_EVENTS,
-        (true, true) => &Face::SESSIONS_OF_EVENTS,
+    if row.has_events {
+        &Face::OF_EVENTS
+    } else {
+        &Face::OF_CALLS
     }
 }
 

@@ -76,7 +76,7 @@ impl RowBuilder {
     }
 
     /// Its error, where it returns one.
-    pub fn fault(&self) -> Option<FtpError> {
+    fn fault(&self) -> Option<FtpError> {
         Some(match self.fault? {
             Fault::Refused => FtpError::ConnectionError(ConnectionError::Io(
                 ErrorKind::ConnectionRefused,
@@ -85,11 +85,6 @@ impl RowBuilder {
             Fault::BadResponse => FtpError::BadResponse,
             Fault::OutOfMemory => FtpError::OutOfMemory,
         })
-    }
-
-    /// The bytes that come on its connections.
-    pub fn bytes(&self) -> &[u8] {
-        &self.bytes
     }
 }
 

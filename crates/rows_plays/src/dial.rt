@@ -1,8 +1,7 @@
 //! How a row's session comes to its connection, where the row says so.
 
 use crate::memory::ended;
-use ftp_base::types::ConnectionError;
-use ftp_transport::{MemoryConn, MemoryTransport, Request, RequestOutcome, Supply};
+use ftp_transport::{MemoryConn, MemoryTransport, Supply};
 use rows_text::{RowError, bytes_of, pair, value};
 use std::alloc::{AllocError, Global};
 use std::io::ErrorKind;
@@ -76,41 +75,6 @@ impl Dial {
         match self.limit {
             Some(limit) => limit.is_zero(),
             None => false,
-        }
-    }
-
-    /// The requests that are due.
-    pub fn requests(&self, alloc: Global) -> Result<Vec<Request>, AllocError> {
-        let mut requests = Vec::new(alloc);
-        if self.has_no_time() {
-            return Ok(requests);
-        }
-        for address in &self.addresses {
-            requests.push(Request::Connect(*address, self.limit))?;
-        }
-        Ok(requests)
-    }
-
-    /// What each address results in.
-    pub fn outcomes(&self, alloc: Global) -> Result<Vec<RequestOutcome>, AllocError> {
-        let refused = RequestOutcome::Refused(ConnectionError::Io(ErrorKind::ConnectionRefused));
-        let mut outcomes = Vec::new(alloc);
-        for place in 0..self.addresses.len() {
-            let connects = matches!(self.hosts.get(place), Some(Some(_)));
-            outcomes.push(if connects {
-                RequestOutcome::Done
-            } else {
-                refused
-            })?;
-        }
-        Ok(outcomes)
-    }
-
-    /// The error where nothing is asked for.
-    pub fn fault(&self) -> ConnectionError {
-        match self.limit {
-            Some(_) => ConnectionError::TimedOut,
-            None => ConnectionError::NoAddress,
         }
     }
 

@@ -5,7 +5,6 @@
 //! empty line ends it. docs/ROWS.md has the words.
 #![tactic(auto)]
 
-mod alphabet;
 mod answers;
 mod builder;
 mod bytewise;
@@ -24,21 +23,19 @@ mod step;
 mod transcript;
 mod transfers;
 
-pub use alphabet::Lists;
 pub use answers::{
     bytes, count, features, lines, reply, size, text, text_of, texts_of, time, unit,
 };
 pub use builder::RowBuilder;
 pub use bytewise::ran_bytewise;
 pub use calls::call;
-pub use dial::Dial;
 pub use encodings::Named;
 pub use memory::{boxed, had};
 pub use methods::{Live, Opening, called, greeted, make, optional};
 pub use play::Play;
-pub use requests::{lines_of, recorded};
+pub use requests::recorded;
 pub use row::{Ending, Row};
-pub use session::{NamedSession, counted, encoded, polled, ran, unread, welcome};
+pub use session::{NamedSession, counted, encoded, polled, ran, unread};
 pub use setup::Setup;
 pub use transcript::{Mark, RowState, add_sent, add_upload};
 pub use transfers::{Held, Transfers};

@@ -8,7 +8,6 @@ use crate::memory::boxed;
 use crate::setup::Setup;
 use crate::step::{Kind, Step};
 use ftp_base::types::Bytes;
-use ftp_calls::exchange::negotiates;
 use ftp_runs::Event;
 use ftp_session::session::Call;
 use rows_text::{RowError, bytes_of, value};
@@ -165,14 +164,6 @@ impl Play {
             Kind::Connect | Kind::Within => self.add_call(Call::Greet),
             _ => Ok(()),
         }
-    }
-
-    /// Whether a call of the row opens a data connection.
-    pub fn opens_data(&self) -> bool {
-        self.events.iter().any(|event| match event {
-            Event::Start(call) => negotiates(call),
-            _ => false,
-        })
     }
 
     /// All bytes come, and they end.

@@ -3,20 +3,10 @@
 use ftp_transport::{Asked, Request, RequestOutcome};
 use std::alloc::{AllocError, Global};
 
-/// A line for each request that is shown, where this is what they resulted in.
-pub fn lines_of(
-    alloc: Global,
-    requests: &[Request],
-    outcomes: &[RequestOutcome],
-) -> Result<Vec<String>, AllocError> {
-    let mut lines = Vec::new(alloc);
-    for (request, outcome) in requests.iter().zip(outcomes.iter()) {
-        add_line(alloc, &mut lines, *request, *outcome)?;
-    }
-    Ok(lines)
-}
-
-/// The same of what a transport recorded.
+/// A line for each request that a transport recorded and that is shown, by what it resulted in.
+///
+/// # Errors
+/// `OutOfMemory`.
 pub fn recorded(alloc: Global, asked: &[Asked]) -> Result<Vec<String>, AllocError> {
     let mut lines = Vec::new(alloc);
     for one in asked {

@@ -33,10 +33,6 @@ pub struct Row<'a> {
     pub has_events: bool,
     /// What its transcript ends with.
     pub ending: Ending,
-    /// Whether it is played on sessions alone.
-    pub is_of_sessions: bool,
-    /// How long the lists of its lines are, where it is a row of lists.
-    pub lists: Option<&'a str>,
     /// The lines of the transcript that is due; none before the line `--`.
     due: Option<String>,
 }
@@ -49,8 +45,6 @@ impl Drop for Row<'_> {
             lines,
             has_events: _,
             ending: _,
-            is_of_sessions: _,
-            lists: _,
             due,
         } = self;
         drop(lines);
@@ -73,8 +67,6 @@ impl<'a> Row<'a> {
             lines: Vec::new(alloc),
             has_events: false,
             ending: Ending::PLAIN,
-            is_of_sessions: false,
-            lists: None,
             due: None,
         })
     }
@@ -101,8 +93,6 @@ impl<'a> Row<'a> {
         match step.kind {
             Kind::Welcome => self.ending.welcome = true,
             Kind::Counts => self.ending.counts = true,
-            Kind::Sessions => self.is_of_sessions = true,
-            Kind::Lists => self.lists = Some(step.argument),
             _ => self.has_events = self.has_events || step.is_event(),
         }
     }

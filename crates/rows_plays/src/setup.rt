@@ -1,19 +1,16 @@
 //! How a row's session comes to its data connections: what it is set to, the ends of its control connection, and what
-//! its transport's requests result in.
+//! its transport is supplied with.
 
 use crate::builder::RowBuilder;
 use crate::bytewise::{ByteBuilder, ByteSession};
 use crate::memory::ended;
 use crate::session::NamedSession;
 use crate::settings::setting;
-use ftp_base::types::{ConnectionError, FtpError};
-use ftp_dialogue::rule_by;
 use ftp_session::session::{Setting, State};
-use ftp_transport::{MemoryConn, MemoryTransport, Request, RequestOutcome, Supply};
+use ftp_transport::{MemoryConn, MemoryTransport, Supply};
 use rows_text::{RowError, bytes_of, value};
 use std::alloc::{AllocError, Global};
 use std::io::ErrorKind;
-use std::mem;
 use std::net::{Ipv4Addr, SocketAddr, SocketAddrV4};
 
 /// What the next request results in that consumes one.
@@ -93,7 +90,6 @@ impl Setup {
     /// Has the session read replies leniently, or strictly; whether the row is played so.
     pub fn reads(&mut self, lenient: bool) -> bool {
         self.lenient = lenient;
-        self.state.settings.reply_rule = rule_by(lenient);
         self.only.is_none_or(|only| only == lenient)
     }
 
@@ -106,7 +102,7 @@ impl Setup {
             }
             Setting::ActivePeerCheck(check) => self.state.settings.active_peer_check = check,
             Setting::ActiveDeadline(deadline) => self.state.settings.active_deadline = deadline,
-            Setting::LenientReplies(lenient) => self.state.settings.reply_rule = rule_by(lenient),
+            Setting::LenientReplies(lenient) => self.only = Some(lenient),
         }
     }
 
@@ -118,7 +114,6 @@ impl Setup {
 
     /// The session has this builder of data connections.
     pub fn has_builder(&mut self, builder: Box<RowBuilder>) {
-        self.state.settings.stream_builder = true;
         self.builder = Some(builder);
     }
 
@@ -133,14 +128,6 @@ impl Setup {
     /// The ends of the control connection: the client's and the server's.
     pub fn ends(&self) -> (SocketAddr, SocketAddr) {
         (self.local, self.peer)
-    }
-
-    /// A state in which a session with these settings begins.
-    pub fn state(&self) -> Result<State, AllocError> {
-        let settings = self.state.settings.clone()?;
-        let mut state = State::new();
-        drop(mem::replace(&mut state.settings, settings));
-        Ok(state)
     }
 
     /// Sets a session so.
@@ -193,85 +180,11 @@ impl Setup {
         }
         Ok(())
     }
-
-    /// What these requests result in, one after another.
-    pub fn outcomes(
-        &self,
-        alloc: Global,
-        requests: &[Request],
-    ) -> Result<Vec<RequestOutcome>, AllocError> {
-        let mut outcomes = Vec::new(alloc);
-        let mut taken = 0usize;
-        for request in requests {
-            let (outcome, takes) = outcome_of(self.port, *request, self.items.get(taken));
-            if takes {
-                taken = taken.saturating_add(1);
-            }
-            outcomes.push(outcome)?;
-        }
-        Ok(outcomes)
-    }
-
-    /// The error that the builder returns, where it returns one.
-    pub fn fault_of_builder(&self) -> Option<FtpError> {
-        match &self.builder {
-            Some(builder) => builder.fault(),
-            None => None,
-        }
-    }
-
-    /// The bytes that come on the last data connection that these requests returned.
-    pub fn data(&self, requests: &[Request]) -> &[u8] {
-        let mut data: &[u8] = &[];
-        let mut taken = 0usize;
-        for request in requests {
-            if let (Request::Build(_), Some(builder)) = (request, &self.builder) {
-                data = builder.bytes();
-            }
-            let next = self.items.get(taken);
-            let (_outcome, takes) = outcome_of(self.port, *request, next);
-            if takes {
-                taken = taken.saturating_add(1);
-                data = bytes_on(next);
-            }
-        }
-        data
-    }
-}
-
-/// The bytes that come on the connection of an item.
-fn bytes_on(item: Option<&Item>) -> &[u8] {
-    match item {
-        Some(Item::Connects(bytes)) => bytes,
-        Some(Item::Comes(_, bytes)) => bytes,
-        Some(Item::Refuses(_)) | None => &[],
-    }
 }
 
 /// A connection on which these bytes came, and ended.
 fn conn_of(alloc: Global, bytes: &[u8]) -> Result<MemoryConn, AllocError> {
     ended(MemoryConn::new(alloc), bytes)
-}
-
-/// What a request results in where this is the next item, and whether it consumes the item; listeners get this port.
-fn outcome_of(port: u16, request: Request, next: Option<&Item>) -> (RequestOutcome, bool) {
-    match (request, next) {
-        (Request::Connect(..), Some(Item::Connects(_))) => (RequestOutcome::Done, true),
-        (Request::Accept(_), Some(Item::Comes(from, _))) => (RequestOutcome::Address(*from), true),
-        (Request::Connect(..) | Request::Accept(_), Some(Item::Refuses(kind))) => {
-            (RequestOutcome::Refused(ConnectionError::Io(*kind)), true)
-        }
-        (Request::Connect(..), _) => {
-            let refused = ConnectionError::Io(ErrorKind::ConnectionRefused);
-            (RequestOutcome::Refused(refused), false)
-        }
-        (Request::Accept(_), _) => (RequestOutcome::Refused(ConnectionError::TimedOut), false),
-        (Request::Build(_), _) => (RequestOutcome::Done, false),
-        (Request::Listen(mut address), _) => {
-            address.set_port(port);
-            (RequestOutcome::Address(address), false)
-        }
-    }
 }
 
 /// A kind of error by its name.

@@ -49,15 +49,10 @@ pub enum Kind {
     Welcome,
     /// `counts`: the transcript ends with how many transfers were opened, and what became of them.
     Counts,
-    /// `sessions`: the row is played on sessions alone. The definition says nothing of it, as of a call that is dropped
-    /// in mid-way, or takes too long, as on a long reply.
-    Sessions,
-    /// `lists N`: the row is each list of at most N of its other steps, and the definition says what is due.
-    Lists,
 }
 
 /// Words that something follows.
-const WITH_ARGUMENT: [(&str, Kind); 22] = [
+const WITH_ARGUMENT: [(&str, Kind); 21] = [
     ("server", Kind::Server),
     ("host", Kind::Host),
     ("connects", Kind::Connects),
@@ -70,7 +65,6 @@ const WITH_ARGUMENT: [(&str, Kind); 22] = [
     ("feed", Kind::Feed),
     ("room", Kind::Room),
     ("start", Kind::Start),
-    ("lists", Kind::Lists),
     ("mode", Kind::Set),
     ("nat", Kind::Set),
     ("peers", Kind::Set),
@@ -83,7 +77,7 @@ const WITH_ARGUMENT: [(&str, Kind); 22] = [
 ];
 
 /// Words that stand alone.
-const BARE: [(&str, Kind); 13] = [
+const BARE: [(&str, Kind); 12] = [
     ("lenient", Kind::Set),
     ("strict", Kind::Set),
     ("refuses", Kind::Refuses),
@@ -96,7 +90,6 @@ const BARE: [(&str, Kind); 13] = [
     ("later", Kind::Later),
     ("welcome", Kind::Welcome),
     ("counts", Kind::Counts),
-    ("sessions", Kind::Sessions),
 ];
 
 /// A step of a row.

@@ -4,7 +4,7 @@ use crate::row::Ending;
 use rows_text::shown;
 use std::alloc::{AllocError, Global};
 
-/// Where a session or a definition stands after a part of a row.
+/// Where a session stands after a part of a row.
 pub struct RowState {
     /// What its transport was asked, line by line.
     pub asked: Vec<String>,

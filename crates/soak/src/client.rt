@@ -1,7 +1,7 @@
 //! The client's side: sessions one after another, each answer of which is compared.
 
 use crate::calls::random_call;
-use crate::due::Due;
+use crate::judge::Judge;
 use crate::memory::resident_pages;
 use crate::script::Script;
 use crate::server::STOP;
@@ -11,7 +11,8 @@ use ftp_base::types::FtpResult;
 use ftp_blocking::FtpStream;
 use ftp_session::session::{Answer, Call};
 use rows_plays::{
-    bytes, count, features, lines, made_by_method, optional, reply, size, text, text_of, time, unit,
+    bytes, call, count, features, lines, made_by_method, optional, reply, size, text, text_of,
+    time, unit,
 };
 use rows_text::RowError;
 use std::io::Write;
@@ -81,14 +82,15 @@ where
 {
     let limit = Duration::from_secs(LIMIT);
     let client = FtpStream::connect_within(rt, &[address], limit).context("connecting")?;
-    let mut due = Due::greeted(rt.alloc(), script)?;
+    let mut judge = Judge::new(rt.alloc(), script);
     for number in 0..LONGEST {
         if tally.calls >= calls {
             break;
         }
-        let call = random_call(rt.alloc(), script.seed, script.session, number)?;
+        let made = random_call(script.seed, script.session, number);
+        let call = call(rt.alloc(), made.0)?;
         let came = text_of(rt.alloc(), &make(rt, &client, &call)?)?;
-        let wanted = text_of(rt.alloc(), &due.answer(rt.alloc(), &call)?)?;
+        let wanted = judge.answer(rt.alloc(), made)?;
         let is_due = came.as_str() == wanted.as_str();
         tally.add(came.as_str(), is_due);
         if !is_due {

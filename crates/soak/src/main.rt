@@ -1,21 +1,22 @@
 //! Makes random calls of the blocking client against a server of its own on loopback, and compares each answer with what
-//! the definition says of the bytes that the server sends.
+//! must come of the replies that the server sends.
 //!
-//! The words are how many calls are made and a seed, as `1000000 1`. Server and definition read the same script, which says
-//! what is sent for which line. Some sessions are cut: their connection is closed or reset within a reply, or no more is
-//! sent. Standard output gets how many answers of which kind came, and each that differs; standard error the pages of memory
-//! in use (proc(5)), ten times.
+//! The words are how many calls are made and a seed, as `1000000 1`. Server and judge read the same script, which says
+//! what is sent for which line; the judge reads the replies by RFC 959, and knows no part of the client. Some sessions are
+//! cut: their connection is closed or reset within a reply, or no more is sent. Standard output gets how many answers of
+//! which kind came, and each that differs; standard error the pages of memory in use (proc(5)), ten times.
 #![tactic(auto)]
 
 mod calls;
 mod chance;
 mod client;
-mod due;
+mod judge;
 mod memory;
 mod replies;
 mod script;
 mod server;
 mod tally;
+mod unread;
 
 use anyhow::{Context, Result, bail};
 use std::net::TcpListener;

@@ -1,4 +1,4 @@
-//! What the server sends in a session, line by line. The definition reads the same.
+//! What the server sends in a session, line by line. The judge reads the same.
 
 use crate::chance::{below, chance};
 use crate::replies::{accepted, any_reply};
