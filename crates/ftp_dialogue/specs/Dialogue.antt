@@ -16,7 +16,7 @@ use Rattle.ftp_base.specs.declared.command.Command.{Command}
 use Rattle.ftp_base.specs.declared.command.Command.TheVariants as command
 use Rattle.ftp_base.specs.Command.{text_of}
 use Rattle.ftp_base.specs.Wire.{wire}
-use Rattle.ftp_base.specs.Ascii.{crlf}
+use Rattle.ftp_base.specs.Ascii.{most_bytes, wire_data}
 use Rattle.ftp_base.specs.Welcome.{Welcome, welcome_text}
 use Rattle.ftp_control.specs.declared.control.rule.ReplyRule.{ReplyRule}
 use Rattle.ftp_control.specs.declared.control.rule.ReplyRule.TheVariants.{Strict, Lenient}

@@ -1,8 +1,8 @@
 //! The addresses of data connections: those in replies, and the command that sends the client's.
 
 use crate::words::said;
-use ftp_calls::answers::{NoAddress, read_extended_port, read_passive_address};
 use ftp_calls::active::port_command;
+use ftp_calls::answers::{NoAddress, read_extended_port, read_passive_address};
 use rows_text::{RowError, bytes_of, value};
 use std::alloc::Global;
 

@@ -3,9 +3,9 @@
 use crate::features::listed;
 use crate::welcomes::Latin1;
 use crate::words::said;
-use ftp_calls::answers::{read_features, read_path, read_second_line, read_size, read_time};
 use ftp_base::encoding::Utf8Encoding;
 use ftp_base::types::Text;
+use ftp_calls::answers::{read_features, read_path, read_second_line, read_size, read_time};
 use rows_text::{RowError, bytes_of};
 use std::alloc::{AllocError, Global};
 
