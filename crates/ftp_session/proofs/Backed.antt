@@ -34,12 +34,10 @@ use Rattle.ftp_calls.specs.declared.call.Answer.TheVariants as answer
 use Rattle.ftp_calls.specs.declared.call.Call.{Call}
 use Rattle.ftp_calls.specs.declared.exchange.Codes.TheVariants.{One}
 use Rattle.ftp_calls.specs.declared.exchange.Ending.TheVariants as ending
-use Rattle.ftp_calls.specs.declared.exchange.Exchange.{Exchange}
 use Rattle.ftp_calls.specs.declared.exchange.Fetch.{Fetch}
 use Rattle.ftp_calls.specs.declared.exchange.Fetch.TheVariants.{Whole, Listed}
 use Rattle.ftp_calls.specs.declared.exchange.Movement.{Movement}
 use Rattle.ftp_calls.specs.declared.exchange.Movement.TheVariants as movement
-use Rattle.ftp_calls.specs.declared.exchange.Row.TheVariants.{Exchanges}
 use Rattle.ftp_calls.specs.declared.exchange.Turn.{Turn}
 use Rattle.ftp_calls.specs.declared.exchange.Turn.TheVariants.{Passive, ExtendedPassive, Active, Restart}
 use Rattle.ftp_dialogue.specs.Coding.{Coding}

@@ -28,7 +28,7 @@ use Rattle.ftp_calls.specs.declared.exchange.Task.TheVariants as task
 use Rattle.ftp_calls.specs.declared.exchange.Turn.{Turn}
 use Rattle.ftp_calls.specs.declared.exchange.Turn.TheVariants.{First, Second, Passive, ExtendedPassive, Active, Restart, Closed, Aborted}
 use Rattle.ftp_dialogue.specs.Coding.{Coding}
-use Rattle.ftp_dialogue.specs.Dialogue.{Tree, Leaf, aborting, accepted, after_fault_of, answer_to_fault, breaking_off, closing, closing_data, concluded, dialogue, doing, features_answer, from_turn, last_turn, later, line_answer, most_passed_over, most_reads, negotiating, negotiating_unless, opened_answer, opened_from, passing_over, path_answer, performing, restart_turn, resyncing, saying, securing, seeking, size_answer, sought, strangers, time_answer, told_of_close, with_aborted, with_finished, with_left, with_transfer}
+use Rattle.ftp_dialogue.specs.Dialogue.{Tree, Leaf, aborting, accepted, after_fault_of, answer_to_fault, breaking_off, closing, closing_data, concluded, dialogue, doing, features_answer, from_turn, last_turn, later, line_answer, most_passed_over, most_reads, negotiating, negotiating_unless, opened_answer, opened_from, passing_over, path_answer, performing, resyncing, saying, securing, seeking, size_answer, sought, strangers, time_answer, told_of_close, with_aborted, with_finished, with_left, with_transfer}
 use Rattle.ftp_dialogue.specs.Promises.{IsFault, answer_of}
 use Rattle.ftp_dialogue.specs.Sound.{cannot_open, some_live}
 use Rattle.ftp_dialogue.specs.Steps.Polls.{StageIn, entered_tree, is_first}
@@ -51,10 +51,9 @@ use Rattle.ftp_dialogue.specs.declared.stage.Stage.TheVariants.{At, Saying, Hear
 use Rattle.ftp_dialogue.specs.declared.stage.Transferring.{Transferring as Fetched}
 use Rattle.ftp_dialogue.specs.declared.stage.Transferring.TheVariants as fetch
 use Rattle.ftp_dialogue.specs.declared.state.State.{State}
-use Rattle.ftp_dialogue.proofs.Sorts.{aborts_finish}
 use Rattle.ftp_session.specs.Calls.{sends}
 use Rattle.ftp_session.specs.PollCauses.{error_of, kept_by, kept_error}
-use Rattle.ftp_session.proofs.Backed.{Backed, IsGrave, IsLight, Or, Reasoned, accepting_backed, carried_backed, clash, close_given, closing_fetch_backed, connecting_backed, ending_fetch_backed, gathering_backed, io, light, light_fault, line_backed, negotiating_backed, of_bytes, one_light, opening_backed, opening_data_backed, peer_backed, port_backed, restart_backed, secured_backed, securing_backed, sending_backed, storing_backed, told_backed, took_no_more}
+use Rattle.ftp_session.proofs.Backed.{Backed, IsGrave, IsLight, Or, accepting_backed, carried_backed, clash, close_given, closing_fetch_backed, connecting_backed, ending_fetch_backed, gathering_backed, io, light, light_fault, line_backed, negotiating_backed, of_bytes, one_light, opening_backed, opening_data_backed, peer_backed, port_backed, restart_backed, secured_backed, securing_backed, sending_backed, storing_backed, told_backed, took_no_more}
 
 -- Endings
 
@@ -89,17 +88,17 @@ module _ (Asks : Type 0) (May : State → FtpError → Type 0) (coding : Coding)
   sought_backed others backed (Err (faults.UnexpectedResponse reply)) may = backed reply
   sought_backed others backed (Err other) may = light_fault Asks May other state (of_bytes other may)
 
+  passed_backed : (next : Tree) → Backed Asks May next → (reply : Response) → Backed Asks May (passing_over next state reply)
+  passed_backed next backed reply = go (eqb (code_of reply.status) (code_of NotAvailable))
+    where
+      go : (b : Bool) → Backed Asks May (cond b (Leaf (Fault (faults.UnexpectedResponse reply)) state) next)
+      go true = light_fault Asks May (faults.UnexpectedResponse reply) state (λ grave. grave)
+      go false = backed
+
   seeking_backed : (left : ℕ) → Backed Asks May (seeking left state)
   unfolding seeking
   seeking_backed zero = (sought_backed (λ reply. Leaf (Fault (faults.UnexpectedResponse reply)) state) (λ reply. light_fault Asks May (faults.UnexpectedResponse reply) state (λ grave. grave)), λ kind same. cc same)
-  seeking_backed (suc left) = (sought_backed (passing_over (seeking left state) state) passed, λ kind same. cc same)
-    where
-      passed : (reply : Response) → Backed Asks May (passing_over (seeking left state) state reply)
-      passed reply = go (eqb (code_of reply.status) (code_of NotAvailable))
-        where
-          go : (b : Bool) → Backed Asks May (cond b (Leaf (Fault (faults.UnexpectedResponse reply)) state) (seeking left state))
-          go true = light_fault Asks May (faults.UnexpectedResponse reply) state (λ grave. grave)
-          go false = seeking_backed left
+  seeking_backed (suc left) = (sought_backed (passing_over (seeking left state) state) (passed_backed (seeking left state) (seeking_backed left)), λ kind same. cc same)
 
   resyncing_backed : Backed Asks May (resyncing coding state)
   resyncing_backed = go (some_live state.counts.owed)
@@ -126,11 +125,11 @@ module _ (Asks : Type 0) (May : State → FtpError → Type 0) (coding : Coding)
         go true = backed
         go false = λ fault same grave. cc same
     accepted_backed ending.Continues needs reply = backed
-    accepted_backed ending.GivesAddress asks reply = told_backed Asks asks state May reply (after state) backed (passive_address_of reply.body)
-    accepted_backed ending.GivesPort asks reply = port_backed Asks asks state May reply (after state) backed (extended_port_of reply.body)
-    accepted_backed (ending.Opens true) asks reply = opening_backed Asks asks state May state.settings.mode (Leaf (opened_answer true reply) (with_transfer state)) (λ fault is grave. cc is)
-    accepted_backed (ending.Opens false) asks reply = opening_backed Asks asks state May state.settings.mode (Leaf (opened_answer false reply) (with_transfer state)) (λ fault is grave. cc is)
-    accepted_backed (ending.Performs (task.Fetch form)) asks reply = opening_backed Asks asks state May state.settings.mode (performing coding (task.Fetch form) state) (gathering_backed Asks asks most_reads May coding form [] state)
+    accepted_backed ending.GivesAddress may_ask reply = told_backed Asks may_ask state May reply (after state) backed (passive_address_of reply.body)
+    accepted_backed ending.GivesPort may_ask reply = port_backed Asks may_ask state May reply (after state) backed (extended_port_of reply.body)
+    accepted_backed (ending.Opens true) may_ask reply = opening_backed Asks may_ask state May state.settings.mode (Leaf (opened_answer true reply) (with_transfer state)) (λ fault is grave. cc is)
+    accepted_backed (ending.Opens false) may_ask reply = opening_backed Asks may_ask state May state.settings.mode (Leaf (opened_answer false reply) (with_transfer state)) (λ fault is grave. cc is)
+    accepted_backed (ending.Performs (task.Fetch form)) may_ask reply = opening_backed Asks may_ask state May state.settings.mode (performing coding (task.Fetch form) state) (gathering_backed Asks may_ask most_reads May coding form [] state)
     accepted_backed (ending.Performs (task.Store bytes)) needs reply = opening_backed Asks needs.0 state May state.settings.mode (performing coding (task.Store bytes) state) (storing_backed Asks needs.0 May needs.1 bytes state)
     accepted_backed (ending.Finishes None) needs reply = λ fault is grave. cc is
     accepted_backed (ending.Finishes (Some kind)) needs reply = λ fault is grave.
@@ -164,13 +163,13 @@ module _ (Asks : Type 0) (May : State → FtpError → Type 0) (coding : Coding)
     row_backed : (row : Row) → NeedsRow Asks May row → Backed Asks May (doing coding row state after)
     row_backed (Exchanges exchange) needs = line_backed Asks May coding exchange.says _ (heard_backed exchange.ending needs, λ kind same left. broken exchange.ending kind same)
     row_backed Resyncs needs = resyncing_backed
-    row_backed (Moves movement) asks = carried_backed Asks asks state May movement
+    row_backed (Moves movement) may_ask = carried_backed Asks may_ask state May movement
     row_backed (Arms offset) needs = λ fault same grave. cc same
     row_backed (Sets setting) needs = λ fault same grave. cc same
 
 -- Calls
 
--- a call asks for a data connection, is made on one, or brings one to its end
+-- a call may_ask for a data connection, is made on one, or brings one to its end
 abbrev pub Carries : Call → Type 0
 Carries called = (negotiates called ≡ true) ⊎ (is_local called ≡ true) ⊎ (finishes called ≡ true)
 
@@ -189,9 +188,9 @@ sends_whole (call.PutFile path bytes) is = (refl, (Second, (refl, refl), refl))
 sends_whole (call.AppendFile path bytes) is = (refl, (Second, (refl, refl), refl))
 sends_whole other is = cc is
 
-module _ (Asks : Type 0) (called : Call) (asks : Carries called → Asks) where
+module _ (Asks : Type 0) (called : Call) (may_ask : Carries called → Asks) where
   own_needs : (May : State → FtpError → Type 0) → (sends called ≡ true → (state : State) → May state took_no_more) → (first : Bool) → NeedsRow Asks May (own_row called first)
-  own_needs May short first = go called first asks short
+  own_needs May short first = go called first may_ask short
     where
       go : (c : Call) (b : Bool) → (Carries c → Asks) → (sends c ≡ true → (state : State) → May state took_no_more) → NeedsRow Asks May (own_row c b)
       go (call.Login user password) true leave takes = tt
@@ -218,8 +217,8 @@ module _ (Asks : Type 0) (called : Call) (asks : Carries called → Asks) where
     turn_needs : (turn : Turn) → TurnOf called turn → ((kind : ErrorKind) → turn ≡ Closed (Some kind) → (state : State) → May state (io kind)) → NeedsRow Asks May (row_of called turn)
     turn_needs First of kept = own_needs May short true
     turn_needs Second of kept = own_needs May short false
-    turn_needs (Passive offset) of kept = asks (inl of)
-    turn_needs (ExtendedPassive offset) of kept = asks (inl of)
+    turn_needs (Passive offset) of kept = may_ask (inl of)
+    turn_needs (ExtendedPassive offset) of kept = may_ask (inl of)
     turn_needs (Active address offset) of kept = tt
     turn_needs (Restart offset) of kept = tt
     turn_needs (Closed None) of kept = tt
@@ -233,9 +232,9 @@ module _ (Asks : Type 0) (called : Call) (asks : Carries called → Asks) where
       later_backed : (turn : Turn) → TurnOf called turn → Backed Asks May (later coding called turn state)
       later_backed First of = last_backed
       later_backed Second of = λ fault same grave. cc same
-      later_backed (Passive offset) of = restart_backed Asks (asks (inl of)) state May coding called last_backed offset
-      later_backed (ExtendedPassive offset) of = restart_backed Asks (asks (inl of)) state May coding called last_backed offset
-      later_backed (Active address offset) of = restart_backed Asks (asks (inl of)) state May coding called last_backed offset
+      later_backed (Passive offset) of = restart_backed Asks (may_ask (inl of)) state May coding called last_backed offset
+      later_backed (ExtendedPassive offset) of = restart_backed Asks (may_ask (inl of)) state May coding called last_backed offset
+      later_backed (Active address offset) of = restart_backed Asks (may_ask (inl of)) state May coding called last_backed offset
       later_backed (Restart offset) of = last_backed
       later_backed (Closed close) of = λ fault same grave. cc same
       later_backed Aborted of = last_backed
@@ -265,7 +264,7 @@ module _ (Asks : Type 0) (called : Call) (asks : Carries called → Asks) where
 
 -- The end of a transfer, and where a call begins
 
-module _ (Asks : Type 0) (called : Call) (asks : Carries called → Asks) (May : State → FtpError → Type 0) (short : sends called ≡ true → (state : State) → May state took_no_more) (coding : Coding) (state : State) where
+module _ (Asks : Type 0) (called : Call) (may_ask : Carries called → Asks) (May : State → FtpError → Type 0) (short : sends called ≡ true → (state : State) → May state took_no_more) (coding : Coding) (state : State) where
   or_short : (outcome : NetOutcome) → sends called ≡ true → (left : State) → Or Asks May outcome left took_no_more
   or_short outcome gives left = inl (short gives left)
 
@@ -275,11 +274,11 @@ module _ (Asks : Type 0) (called : Call) (asks : Carries called → Asks) (May :
   closing_backed : finishes called ≡ true → Backed Asks May (closing coding called state)
   closing_backed ends = λ outcome.
       let told = told_of_close state.uploads outcome in
-      let leave = asks (inr (inr ends)) in
-      turn_backed Asks called asks (Or Asks May outcome) (or_short outcome) coding state (Closed told) ends (λ kind is left. inr (leave, close_given Asks leave state.uploads outcome kind (close_is told kind is)))
+      let leave = may_ask (inr (inr ends)) in
+      turn_backed Asks called may_ask (Or Asks May outcome) (or_short outcome) coding state (Closed told) ends (λ kind is left. inr (leave, close_given Asks leave state.uploads outcome kind (close_is told kind is)))
 
   breaking_backed : aborts called ≡ true → Backed Asks May (breaking_off coding called state)
-  breaking_backed ends = λ outcome. turn_backed Asks called asks (Or Asks May outcome) (or_short outcome) coding state Aborted ends (λ kind is. cc is)
+  breaking_backed ends = λ outcome. turn_backed Asks called may_ask (Or Asks May outcome) (or_short outcome) coding state Aborted ends (λ kind is. cc is)
 
   aborting_backed : aborts called ≡ true → Backed Asks May (aborting coding called state)
   aborting_backed ends = line_backed Asks May coding (Some command.Abor) (breaking_off coding called state) (breaking_backed ends)
@@ -289,7 +288,7 @@ module _ (Asks : Type 0) (called : Call) (asks : Carries called → Asks) (May :
   abort_backed ends (abort.Sending line) = breaking_backed ends
   abort_backed ends abort.ClosingData = breaking_backed ends
 
-module _ (Asks : Type 0) (called : Call) (asks : Carries called → Asks) (May : State → FtpError → Type 0) (short : sends called ≡ true → (state : State) → May state took_no_more) (coding : Coding) (state : State) where
+module _ (Asks : Type 0) (called : Call) (may_ask : Carries called → Asks) (May : State → FtpError → Type 0) (short : sends called ≡ true → (state : State) → May state took_no_more) (coding : Coding) (state : State) where
   pub begun_backed : (negotiates called ≡ true → (fault : FtpError) (s : State) → cannot_open s.counts ≡ Some fault → dialogue coding called state ≡ Leaf (Fault fault) s → May s fault) → Backed Asks May (dialogue coding called state)
   begun_backed spent = go (negotiates called) refl
     where
@@ -297,13 +296,13 @@ module _ (Asks : Type 0) (called : Call) (asks : Carries called → Asks) (May :
       left = with_left state
 
       ends : finishes called ≡ true → (b : Bool) → aborts called ≡ b → Backed Asks May (cond b (aborting coding called left) (closing coding called left))
-      ends is true aborts = aborting_backed Asks called asks May short coding left aborts
-      ends is false aborts = closing_backed Asks called asks May short coding left is
+      ends is true aborts = aborting_backed Asks called may_ask May short coding left aborts
+      ends is false aborts = closing_backed Asks called may_ask May short coding left is
 
       -- it needs no turn of its own at the start, but its row
       rest : (b : Bool) → finishes called ≡ b → Backed Asks May (cond b (closing_data coding called left) (from_turn coding called First state))
       rest true is = ends is (aborts called) refl
-      rest false is = row_backed Asks May coding state (later coding called First) (last_backed Asks called asks May short coding state) (row_of called First) (own_needs Asks called asks May short true)
+      rest false is = row_backed Asks May coding state (later coding called First) (last_backed Asks called may_ask May short coding state) (row_of called First) (own_needs Asks called may_ask May short true)
 
       opens : Tree
       opens = negotiating coding called state.settings.restart_offset (opened_from called state)
@@ -313,12 +312,12 @@ module _ (Asks : Type 0) (called : Call) (asks : Carries called → Asks) (May :
 
       go : (b : Bool) → negotiates called ≡ b → Backed Asks May (cond b opens others)
       go false is = rest (finishes called) refl
-      go true is = negotiating_backed Asks (asks (inl is)) (opened_from called state) May coding called (last_backed Asks called asks May short coding (opened_from called state)) state.settings.restart_offset
+      go true is = negotiating_backed Asks (may_ask (inl is)) (opened_from called state) May coding called (last_backed Asks called may_ask May short coding (opened_from called state)) state.settings.restart_offset
           (λ fault none. spent is fault (opened_from called state) none (ap (λ b. cond b opens others) is ∙ ap (λ o. negotiating_unless o coding called state.settings.restart_offset (opened_from called state)) none))
 
 -- Each stage
 
-module _ (Asks : Type 0) (called : Call) (asks : Carries called → Asks) (May : State → FtpError → Type 0) (gives : MayGive called Movements → (state : State) → May state took_no_more) (coding : Coding) (state : State) where
+module _ (Asks : Type 0) (called : Call) (may_ask : Carries called → Asks) (May : State → FtpError → Type 0) (gives : MayGive called Movements → (state : State) → May state took_no_more) (coding : Coding) (state : State) where
   short : sends called ≡ true → (left : State) → May left took_no_more
   short is = gives (sends_whole called is)
 
@@ -339,21 +338,21 @@ module _ (Asks : Type 0) (called : Call) (asks : Carries called → Asks) (May :
   asking_backed leave turn backed (asks.Securing then) is = secured_backed Asks leave state May (opened_by coding then state) (opened_backed leave then is)
 
   way_backed : negotiates called ≡ true → (on : Way) → WayOf called on → ((fault : FtpError) → cannot_open state.counts ≡ Some fault → way_of coding called state on ≡ Leaf (Fault fault) state → May state fault) → Backed Asks May (way_of coding called state on)
-  way_backed is (way.Negotiating offset) of spent = negotiating_backed Asks (asks (inl is)) state May coding called (last_backed Asks called asks May short coding state) offset (λ fault none. spent fault none (ap (λ o. negotiating_unless o coding called offset state) none))
-  way_backed is (way.Locating offset) of spent = opening_data_backed Asks (asks (inl is)) state May coding called (last_backed Asks called asks May short coding state) offset mode.Active
-  way_backed is (way.Binding local offset) of spent = opening_data_backed Asks (asks (inl is)) state May coding called (last_backed Asks called asks May short coding state) offset mode.Active local
-  way_backed is (way.Asking turn asking) of spent = asking_backed (asks (inl is)) turn (later_any turn) asking of
+  way_backed is (way.Negotiating offset) of spent = negotiating_backed Asks (may_ask (inl is)) state May coding called (last_backed Asks called may_ask May short coding state) offset (λ fault none. spent fault none (ap (λ o. negotiating_unless o coding called offset state) none))
+  way_backed is (way.Locating offset) of spent = opening_data_backed Asks (may_ask (inl is)) state May coding called (last_backed Asks called may_ask May short coding state) offset mode.Active
+  way_backed is (way.Binding local offset) of spent = opening_data_backed Asks (may_ask (inl is)) state May coding called (last_backed Asks called may_ask May short coding state) offset mode.Active local
+  way_backed is (way.Asking turn asking) of spent = asking_backed (may_ask (inl is)) turn (later_any turn) asking of
     where
       -- whatever the turn was, it negotiates
       later_any : (turn : Turn) → Backed Asks May (later coding called turn state)
-      later_any First = last_backed Asks called asks May short coding state
+      later_any First = last_backed Asks called may_ask May short coding state
       later_any Second = λ fault same grave. cc same
-      later_any (Passive offset) = later_backed Asks called asks May short coding state (Passive offset) is
-      later_any (ExtendedPassive offset) = later_backed Asks called asks May short coding state (ExtendedPassive offset) is
-      later_any (Active address offset) = later_backed Asks called asks May short coding state (Active address offset) is
-      later_any (Restart offset) = last_backed Asks called asks May short coding state
+      later_any (Passive offset) = later_backed Asks called may_ask May short coding state (Passive offset) is
+      later_any (ExtendedPassive offset) = later_backed Asks called may_ask May short coding state (ExtendedPassive offset) is
+      later_any (Active address offset) = later_backed Asks called may_ask May short coding state (Active address offset) is
+      later_any (Restart offset) = last_backed Asks called may_ask May short coding state
       later_any (Closed close) = λ fault same grave. cc same
-      later_any Aborted = last_backed Asks called asks May short coding state
+      later_any Aborted = last_backed Asks called may_ask May short coding state
 
   -- it carries a whole file or listing
   told_reasoned : (told : Answer) → ((fault : FtpError) → error_of told ≡ Some fault → (left : State) → May left fault) → (left : State) (fault : FtpError) → told ≡ Fault fault → IsGrave fault → May left fault
@@ -374,20 +373,20 @@ module _ (Asks : Type 0) (called : Call) (asks : Carries called → Asks) (May :
   carries_backed leave (fetch.Ending form told) is kept = ending_fetch_backed Asks leave May form told state (told_reasoned told kept)
 
   stage_backed : (stage : Stage) → StageOf called stage → (Carries called → (fault : FtpError) → kept_error stage ≡ Some fault → (left : State) → May left fault) → (negotiates called ≡ true → (fault : FtpError) → cannot_open state.counts ≡ Some fault → remaining coding called state stage ≡ Leaf (Fault fault) state → May state fault) → Backed Asks May (remaining coding called state stage)
-  stage_backed (At turn) is kept spent = turn_backed Asks called asks May short coding state turn is reason
+  stage_backed (At turn) is kept spent = turn_backed Asks called may_ask May short coding state turn is reason
     where
       reason : (kind : ErrorKind) → turn ≡ Closed (Some kind) → (left : State) → May left (io kind)
       reason kind at =
           let Q : Turn → Type 0 = λ t. TurnOf called t in
           kept (inr (inr (subst Q at is))) (io kind) (ap (λ t. kept_error (At t)) at)
-  stage_backed (Saying line a) is kept spent = awaited_backed Asks called asks May short coding state a is.2 is.0 kept
-  stage_backed (Hearing a) is kept spent = awaited_backed Asks called asks May short coding state a is.2 is.0 kept
+  stage_backed (Saying line a) is kept spent = awaited_backed Asks called may_ask May short coding state a is.2 is.0 kept
+  stage_backed (Hearing a) is kept spent = awaited_backed Asks called may_ask May short coding state a is.2 is.0 kept
   stage_backed (Arming turn offset) is kept spent = λ fault same grave. cc same
   stage_backed (Resyncing turn seeks) is kept spent = sought_left Asks May coding state seeks
   stage_backed (OpeningData on) is kept spent = way_backed is.0 on is.1 (spent is.0)
-  stage_backed Closing is kept spent = closing_backed Asks called asks May short coding state is
-  stage_backed (Aborting how) is kept spent = abort_backed Asks called asks May short coding state is how
-  stage_backed (Transferring fetching) is kept spent = let opens = fetches fetching is in carries_backed (asks (inl opens)) fetching is (kept (inl opens))
+  stage_backed Closing is kept spent = closing_backed Asks called may_ask May short coding state is
+  stage_backed (Aborting how) is kept spent = abort_backed Asks called may_ask May short coding state is how
+  stage_backed (Transferring fetching) is kept spent = let opens = fetches fetching is in carries_backed (may_ask (inl opens)) fetching is (kept (inl opens))
 
   -- where a poll begins
   pub entered_backed : (stage : Stage) → StageIn (Some called) stage → (Carries called → (fault : FtpError) → kept_error stage ≡ Some fault → (left : State) → May left fault) → (negotiates called ≡ true → (fault : FtpError) (s : State) → cannot_open s.counts ≡ Some fault → entered_tree coding called stage state ≡ Leaf (Fault fault) s → May s fault) → Backed Asks May (entered_tree coding called stage state)
@@ -397,7 +396,7 @@ module _ (Asks : Type 0) (called : Call) (asks : Carries called → Asks) (May :
       tree b = cond b (dialogue coding called state) (remaining coding called state stage)
 
       go : (b : Bool) → is_first stage ≡ b → StageOf called stage ⊎ (stage ≡ At First) → Backed Asks May (cond b (dialogue coding called state) (remaining coding called state stage))
-      go true first is = begun_backed Asks called asks May short coding state (λ is fault s none leaf. spent is fault s none (ap tree first ∙ leaf))
+      go true first is = begun_backed Asks called may_ask May short coding state (λ is fault s none leaf. spent is fault s none (ap tree first ∙ leaf))
       go false later (inl of) = stage_backed stage of kept (λ is fault none leaf. spent is fault state none (ap tree later ∙ leaf))
       go false later (inr is) = clash (sym (ap is_first is) ∙ later)
 
@@ -411,7 +410,7 @@ Never state fault = ⊥
 abbrev pub Spent : State → FtpError → Type 0
 Spent state fault = cannot_open state.counts ≡ Some fault
 
--- a call that asks nothing beside the control connection
+-- a call that may_ask nothing beside the control connection
 pub quiet_backed : (coding : Coding) (called : Call) → (Carries called → ⊥) → (sends called ≡ true → ⊥) → (state : State) → Backed ⊥ Never (dialogue coding called state)
 quiet_backed coding called none sends_none state = begun_backed ⊥ called none Never (λ is. absurd (sends_none is)) coding state (λ is. absurd (none (inl is)))
 

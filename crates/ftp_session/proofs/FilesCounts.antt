@@ -1,5 +1,5 @@
 -- Failures that are counted while a whole file is moved.
-use Rattle.std.proofs.Common.{◌≡◌, ℕ, Bool, true, false, List, Option, Some, None, Result, Ok, Err, inl, inr, ◌⊎◌, refl, ap, sym, ◌∙◌, subst}
+use Rattle.std.proofs.Common.{◌≡◌, ℕ, Bool, true, false, List, Option, Some, Result, Ok, Err, inl, inr, ◌⊎◌, ap, sym, ◌∙◌, subst}
 use Rattle.std.specs.Prelude.{IfErr}
 use Rattle.std.specs.Io.KnownBytes.{Appends}
 use Rattle.std.specs.declared.io.ErrorKind.{ErrorKind}
@@ -123,7 +123,7 @@ save_stops tells writer writer' old new fault fails grave = go fails.cause
 
 -- Whole files
 
-module _ (opens ends : Link) (same : opens.tells → ends.tells) (coding : Coding) (called : Call) (none : sends called ≡ false) (mark after former kept : Option End) (old new : SessionValue) where
+module _ (opens ends : Link) (same : opens.tells → ends.tells) (coding : Coding) (called : Call) (sends_none : sends called ≡ false) (mark after former kept : Option End) (old new : SessionValue) where
   -- a session that opened a transfer, with the data connection of one
   kept_beside : (direction : Direction) (between marked : Option End) (given : SessionValue) (transfer over : TransferValue) → OpensOne opens coding called direction between marked former kept (as_seen between old) given (Ok transfer) → Kept opens.tells old (with_data (Some over.told) given)
   kept_beside direction between marked given transfer over (keeps, opened) =
@@ -161,7 +161,7 @@ module _ (opens ends : Link) (same : opens.tells → ends.tells) (coding : Codin
 
       go : PutsFrom opens ends coding called source source' puts.between after former kept (as_seen puts.between old) new result → P result
       go (inl s) = stores s
-      go (inr (fault, is, opened, none)) = subst P (sym is) (of_opening opens _ old new fault (opened_reasons opens coding called none Upload mark after former kept old new (Err fault) (record { between = puts.between; looks = puts.looks; goes_on = opened })))
+      go (inr (fault, is, opened, none)) = subst P (sym is) (of_opening opens _ old new fault (opened_reasons opens coding called sends_none Upload mark after former kept old new (Err fault) (record { between = puts.between; looks = puts.looks; goes_on = opened })))
 
   pub download_counts : {T : Type 0} (Reads : TransferValue → Result T FtpError → TransferValue → Type 0) (result : Result T FtpError) → Retrieves opens ends coding called Reads mark after former kept old new result → IfErr result (λ fault. CountsDownload opens ends coding called Reads mark former kept old new fault)
   download_counts {T} Reads result retrieves = go retrieves.goes_on
@@ -192,7 +192,7 @@ module _ (opens ends : Link) (same : opens.tells → ends.tells) (coding : Codin
 
       go : RetrievesFrom opens ends coding called Reads retrieves.between after former kept (as_seen retrieves.between old) new result → P result
       go (inl s) = reads s
-      go (inr (fault, is, opened)) = subst P (sym is) (of_opening opens _ old new fault (opened_reasons opens coding called none Download mark after former kept old new (Err fault) (record { between = retrieves.between; looks = retrieves.looks; goes_on = opened })))
+      go (inr (fault, is, opened)) = subst P (sym is) (of_opening opens _ old new fault (opened_reasons opens coding called sends_none Download mark after former kept old new (Err fault) (record { between = retrieves.between; looks = retrieves.looks; goes_on = opened })))
 
   pub saving_counts : (writer writer' : Option (List ℕ)) (result : Result ℕ FtpError) → WritesTo opens ends coding called writer writer' mark after former kept old new result → IfErr result (λ fault. CountsSaving opens ends coding called writer writer' mark former kept old new fault)
   saving_counts writer writer' result writes = go writes.goes_on
@@ -223,4 +223,4 @@ module _ (opens ends : Link) (same : opens.tells → ends.tells) (coding : Codin
 
       go : WritesFrom opens ends coding called writer writer' writes.between after former kept (as_seen writes.between old) new result → P result
       go (inl s) = receives s
-      go (inr (fault, is, opened, none)) = subst P (sym is) (of_opening opens _ old new fault (opened_reasons opens coding called none Download mark after former kept old new (Err fault) (record { between = writes.between; looks = writes.looks; goes_on = opened })))
+      go (inr (fault, is, opened, none)) = subst P (sym is) (of_opening opens _ old new fault (opened_reasons opens coding called sends_none Download mark after former kept old new (Err fault) (record { between = writes.between; looks = writes.looks; goes_on = opened })))

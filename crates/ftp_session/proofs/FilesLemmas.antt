@@ -6,7 +6,7 @@ use Rattle.ftp_transfer.specs.Mark.{End}
 use Rattle.ftp_dialogue.specs.Coding.{Coding}
 use Rattle.ftp_dialogue.specs.Link.{Link}
 use Rattle.ftp_dialogue.specs.State.{SessionValue}
-use Rattle.ftp_session.specs.Files.{FinishesWhole, Puts, Retrieves, Stores, first_of}
+use Rattle.ftp_session.specs.Files.{FinishesWhole, Puts, Receives, Retrieves, Stores, WritesTo, first_of}
 use Rattle.ftp_session.specs.Handed.{Opens}
 use Rattle.ftp_transfer.specs.Transfer.{TransferValue}
 use Rattle.ftp_transfer.specs.declared.direction.Direction.TheVariants.{Download, Upload}

@@ -1,5 +1,5 @@
 -- Why a poll returns an error of a connection, or `SessionFailed`, and what a call that waits keeps for its answer.
-use Rattle.std.proofs.Common.{◌≡◌, ◌<◌, ℕ, Bool, true, false, [], Option, Some, None, Result, Ok, inl, inr, ◌⊎◌, refl, ap, sym, ◌∙◌, subst}
+use Rattle.std.proofs.Common.{◌≡◌, Bool, true, false, [], Option, Some, None, Result, Ok, inl, inr, ◌⊎◌, refl, ap, sym, ◌∙◌, subst}
 use Rattle.std.specs.declared.io.ErrorKind.{ErrorKind}
 use Rattle.futures.specs.declared.task.Poll.{Poll}
 use Rattle.futures.specs.declared.task.Poll.TheVariants.{Ready, Pending}
@@ -23,7 +23,7 @@ use Rattle.ftp_calls.specs.declared.exchange.Turn.TheVariants.{First, Closed}
 use Rattle.ftp_transfer.specs.Mark.{End}
 use Rattle.ftp_dialogue.specs.CatchingUp.{CatchesUp, is_behind, is_plain_read}
 use Rattle.ftp_dialogue.specs.Coding.{Coding}
-use Rattle.ftp_dialogue.specs.Counted.{CountsFailure, IsAmong, IsGivenBeside}
+use Rattle.ftp_dialogue.specs.Counted.{CountsFailure, IsGivenBeside}
 use Rattle.ftp_dialogue.specs.Dialogue.{Tree, Leaf, closed_as, concluded, fetch_ending, later, told_of_close, with_fetched, with_finished}
 use Rattle.ftp_dialogue.specs.Link.{Link, unasked}
 use Rattle.ftp_dialogue.specs.NetEvents.{Net, outcomes_of}
@@ -41,11 +41,11 @@ use Rattle.ftp_dialogue.specs.declared.stage.Stage.TheVariants.{At, Saying, Hear
 use Rattle.ftp_dialogue.specs.declared.stage.Transferring.TheVariants as fetch
 use Rattle.ftp_dialogue.specs.declared.state.State.{State}
 use Rattle.ftp_dialogue.proofs.NetEvents.{letting_beside}
-use Rattle.ftp_session.specs.PollCauses.{CausesAnswer, CausesKept, CausesPoll, TakesNoMore, error_of, kept_by, kept_error}
+use Rattle.ftp_session.specs.PollCauses.{CausesAnswer, CausesPoll, TakesNoMore, error_of, kept_by, kept_error}
 use Rattle.ftp_session.specs.Polled.{CatchesUpThenPolls, CountsPoll, DrainsFirst, EndsOrPolls, LooksFirst, PollsCall, PollsInStep, PollsInStepIf, PollsNext, PollsNextIf, PollsUnless, ThenPolls, ThenStarts, ThenStartsIf, UnderWay}
-use Rattle.ftp_session.proofs.Backed.{Backed, IsGrave, Or, Since, clash, io, one_light, place_backed, took_no_more}
+use Rattle.ftp_session.proofs.Backed.{Backed, IsGrave, Or, Since, io, one_light, place_backed, took_no_more}
 use Rattle.ftp_session.proofs.EveryStage.{Carries, Never, Spent, drain_backed, entered_backed, plain_carries}
-use Rattle.ftp_session.proofs.Calm.{Calm, calm_beside, calm_on, calm_same, given_after, happens_on, lets_happen, seen_channel, seen_net}
+use Rattle.ftp_session.proofs.Calm.{Calm, calm_beside, calm_same, given_after, happens_on, lets_happen, seen_channel, seen_net}
 use Rattle.ftp_session.proofs.Grounds.{Grounds, Why, after_calm, asked_caught, ends_same, made_grounds, none_then, of_whole, refused_grounds, told_as, told_light, told_one, up_caught, widen}
 use Rattle.ftp_session.proofs.Reasons.{spent_no_io, to_counts}
 
@@ -285,14 +285,22 @@ module _ (link : Link) (may_wait : Type 0) (coding : Coding) where
   looked_calm false mark after old seen look = calm_same link old seen look.1
 
   module _ (p : UnderWay) (Asks : Type 0) (May : State → FtpError → Type 0) (Kept : FtpError → Type 0) (backed : (state : State) → Backed Asks May (entered_tree coding p.call p.stage state)) (backed_kept : (state : State) → Backed Asks (AtOnce p.call p.stage Asks May Kept state) (entered_tree coding p.call p.stage state)) (still : (fault : FtpError) → kept_error p.stage ≡ Some fault → Kept fault) where
+    seen_follow : (q : UnderWay) (mark after : Option End) (old new : SessionValue) (result : Poll Answer) → (polls : PollsUnless false link may_wait coding p q mark after old new result) → Follows p.call p.stage Asks May Kept (kept_error polls.stage) old new result
+    seen_follow q mark after old new result polls = after_follows p.call p.stage Asks May Kept (kept_error polls.stage) old polls.seen new result (looked_calm p.looks mark after old polls.seen polls.looks) (step_follows p.call p.stage Asks May Kept backed backed_kept still polls.stage polls.behind polls.seen new result polls.polls)
+
     polls_follow : (q : UnderWay) (mark after : Option End) (old new : SessionValue) (result : Poll Answer) → PollsCall link may_wait coding p q mark after old new result → Follows p.call p.stage Asks May Kept (kept_error q.stage) old new result
-    polls_follow q mark after old new result polls = go p.over polls
+    polls_follow q mark after old new (Ready told) polls = go p.over polls
       where
-        go : (b : Bool) → PollsUnless b link may_wait coding p q mark after old new result → Follows p.call p.stage Asks May Kept (kept_error q.stage) old new result
-        go true over = ready_as p.call p.stage Asks May Kept (kept_error q.stage) old new result (Fault (faults.ConnectionError cause.AlreadyCompleted)) over.is (told_light link Asks May old new (Fault (faults.ConnectionError cause.AlreadyCompleted)) (one_light (faults.ConnectionError cause.AlreadyCompleted) (λ grave. grave)))
+        go : (b : Bool) → PollsUnless b link may_wait coding p q mark after old new (Ready told) → Grounds link Asks May old new told
+        go true over = told_as link Asks May old new told (Fault (faults.ConnectionError cause.AlreadyCompleted)) (ready_is told (Fault (faults.ConnectionError cause.AlreadyCompleted)) over.is) (told_light link Asks May old new (Fault (faults.ConnectionError cause.AlreadyCompleted)) (one_light (faults.ConnectionError cause.AlreadyCompleted) (λ grave. grave)))
+        go false seen = seen_follow q mark after old new (Ready told) seen
+    polls_follow q mark after old new Pending polls = go p.over polls
+      where
+        go : (b : Bool) → PollsUnless b link may_wait coding p q mark after old new Pending → Follows p.call p.stage Asks May Kept (kept_error q.stage) old new Pending
+        go true over = not_ready (Fault (faults.ConnectionError cause.AlreadyCompleted)) over.is
         go false seen =
-            let P : Option FtpError → Type 0 = λ kept. Follows p.call p.stage Asks May Kept kept old new result in
-            subst P (ap (λ x. kept_error x.stage) (sym seen.next)) (after_follows p.call p.stage Asks May Kept (kept_error seen.stage) old seen.seen new result (looked_calm p.looks mark after old seen.seen seen.looks) (step_follows p.call p.stage Asks May Kept backed backed_kept still seen.stage seen.behind seen.seen new result seen.polls))
+            let P : Option FtpError → Type 0 = λ kept. Follows p.call p.stage Asks May Kept kept old new Pending in
+            subst P (ap (λ x. kept_error x.stage) (sym seen.next)) (seen_follow q mark after old new Pending seen)
 
 -- A command
 

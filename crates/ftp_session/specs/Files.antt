@@ -13,6 +13,7 @@ use Rattle.ftp_dialogue.specs.State.{SessionValue}
 use Rattle.ftp_dialogue.specs.Steps.Moving.{CarriesOut}
 use Rattle.ftp_session.specs.Calls.{unit_answer}
 use Rattle.ftp_transfer.specs.Copying.{Copies}
+use Rattle.ftp_transfer.specs.Saving.{Saves}
 use Rattle.ftp_session.specs.Handed.{BringsToEnd, OpensOne, SeesFirst, is_out, left_if, with_data}
 use Rattle.ftp_transfer.specs.Transfer.{TransferValue}
 use Rattle.ftp_transfer.specs.declared.direction.Direction.TheVariants.{Download, Upload}

@@ -1,7 +1,7 @@
 //! A task that waits for what a session's call waits for.
 
 ghost use Rattle.std.specs.Prelude.{◌≡◌};
-ghost use Rattle.futures.specs.Task.{IsArmed, Keeps};
+ghost use Rattle.futures.specs.Task.{IsArmed, Keeps as KeepsTask};
 ghost use Rattle.ftp_transport.specs.declared.waiting.Waiting.TheVariants as waits;
 ghost use Rattle.ftp_session.specs.Kept.{Keeps};
 
@@ -29,7 +29,7 @@ where
         ensures mark { self.new.mark ≡ self.old.mark }
         ensures keeps { Keeps self.old self.new }
         ensures registered { result ≡ waits.Registered → IsArmed cx.new }
-        ensures kept { Keeps cx.old cx.new }
+        ensures kept { KeepsTask cx.old cx.new }
     {
         self.machine.poll_ready(cx)
     }
