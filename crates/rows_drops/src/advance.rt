@@ -10,6 +10,9 @@ use rows_text::RowError;
 use std::random::RandomSource;
 use std::sync::Wait;
 
+/// More polls than a call of a row has: it waits once for each byte that it reads or writes, and for little else.
+const MOST: usize = 100_000;
+
 /// How far a call goes on.
 #[derive(Clone, Copy)]
 pub enum How {
@@ -27,11 +30,9 @@ where
     T: Drop,
     requires { (state : F) → F.can_poll state }
 {
-    let How::Polls(polls) = how else {
-        return match block_on(rt, state) {
-            Ok(outcome) => Ok(Some(outcome)),
-            Err(_) => Err(RowError::OutOfMemory),
-        };
+    let polls = match how {
+        How::Polls(polls) => polls,
+        How::End => MOST,
     };
     for _ in 0..polls {
         match block_on(rt, poll_immediate(&mut *state)) {
