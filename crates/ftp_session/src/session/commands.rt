@@ -367,7 +367,27 @@ where
             .call_in_step(&Nothing, alloc, &self.encoding, call)
     }
 
-    /// Makes a call that returns nothing, with arguments of its own. Where memory runs out for them nothing happens.
+    /// Makes a call with arguments of its own. Where memory runs out for them nothing happens.
+    pub(super) fn made(&mut self, alloc: Global, call: BorrowedCall<'_>) -> Answer
+        requires { IsPlain (call_of call) }
+        ensures keeps { Keeps self.old self.new }
+        ensures answers { MayAnswer (call_of call.entry) result }
+        ensures plays { PlaysSeen (blocking Tr.Conn.Conn) (chosen E.decoded E.encoded
+            self.old.encoding.0) (call_of call.entry) self.old.mark self.new.mark self.old.machine
+            self.new.machine result }
+        ensures counts { CountsFaults Tr.Conn.tells self.old.machine self.new.machine result }
+    {
+        match call.owned(alloc) {
+            Ok(call) => {
+                let answer = self.call(alloc, &call);
+                drop(call);
+                answer
+            }
+            Err(AllocError) => Answer::Fault(self.withheld_call()),
+        }
+    }
+
+    /// Makes a call that returns nothing.
     fn perform(&mut self, alloc: Global, call: BorrowedCall<'_>) -> FtpResult<()>
         requires { GivesNothing (call_of call) }
         ensures keeps { Keeps self.old self.new }
@@ -380,17 +400,10 @@ where
         ensures counts { CountsFaults Tr.Conn.tells self.old.machine self.new.machine
             (unit_answer result) }
     {
-        match call.owned(alloc) {
-            Ok(call) => {
-                let answer = self.call(alloc, &call);
-                drop(call);
-                unit(answer)
-            }
-            Err(AllocError) => Err(self.withheld_call()),
-        }
+        unit(self.made(alloc, call))
     }
 
-    /// Makes a call that returns its reply, as `perform` does.
+    /// Makes a call that returns its reply.
     fn perform_for_reply(&mut self, alloc: Global, call: BorrowedCall<'_>) -> FtpResult<Response>
         requires { GivesReply (call_of call) }
         ensures keeps { Keeps self.old self.new }
@@ -403,14 +416,7 @@ where
         ensures counts { CountsFaults Tr.Conn.tells self.old.machine self.new.machine
             (reply_answer result) }
     {
-        match call.owned(alloc) {
-            Ok(call) => {
-                let answer = self.call(alloc, &call);
-                drop(call);
-                reply(answer)
-            }
-            Err(AllocError) => Err(self.withheld_call()),
-        }
+        reply(self.made(alloc, call))
     }
 
     /// A call isn't made whose arguments found no memory: the session looks, and returns why.

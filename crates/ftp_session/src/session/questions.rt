@@ -23,7 +23,7 @@ use ftp_base::types::{Features, FtpResult};
 use ftp_calls::call::BorrowedCall;
 use ftp_transport::{Conn, Network};
 use jiff::civil::DateTime;
-use std::alloc::{AllocError, Global};
+use std::alloc::Global;
 
 impl<Tr: Network, K: Drop, E: Encoding, B: Drop> Session<Tr, K, E, B>
 where
@@ -59,14 +59,7 @@ where
             (text_answer result) }
         ensures keeps { Keeps self.old self.new }
     {
-        match BorrowedCall::Mlst(path).owned(alloc) {
-            Ok(call) => {
-                let answer = self.call(alloc, &call);
-                drop(call);
-                text(answer)
-            }
-            Err(AllocError) => Err(self.withheld_call()),
-        }
+        text(self.made(alloc, BorrowedCall::Mlst(path)))
     }
 
     /// When a file was last changed, in UTC: `MDTM` (213), the first fourteen digits of the reply that are no part of a
@@ -82,14 +75,7 @@ where
             (time_answer result) }
         ensures keeps { Keeps self.old self.new }
     {
-        match BorrowedCall::Mdtm(path).owned(alloc) {
-            Ok(call) => {
-                let answer = self.call(alloc, &call);
-                drop(call);
-                time(answer)
-            }
-            Err(AllocError) => Err(self.withheld_call()),
-        }
+        time(self.made(alloc, BorrowedCall::Mdtm(path)))
     }
 
     /// How many bytes a file has: `SIZE` (213), the last word of the reply (RFC 3659, section 4).
@@ -105,14 +91,7 @@ where
             (size_answer result) }
         ensures keeps { Keeps self.old self.new }
     {
-        match BorrowedCall::Size(path).owned(alloc) {
-            Ok(call) => {
-                let answer = self.call(alloc, &call);
-                drop(call);
-                size(answer)
-            }
-            Err(AllocError) => Err(self.withheld_call()),
-        }
+        size(self.made(alloc, BorrowedCall::Size(path)))
     }
 
     /// What the server can do beyond RFC 959: `FEAT` (211; RFC 2389, section 3), whose reply has a feature in each line

@@ -1,30 +1,17 @@
-use Rattle.std.proofs.Common.{option_map, refl, false, subst, sym}
-use Rattle.ftp_calls.specs.Kinds.{GivesText}
-use Rattle.ftp_calls.specs.declared.call.Call.{Call}
+use Rattle.std.proofs.Common.{option_map, refl, false}
 use Rattle.ftp_calls.specs.declared.call.Call.TheVariants.{Mlst}
 use Rattle.ftp_dialogue.specs.Coding.{chosen}
 use Rattle.ftp_session.proofs.Commands.{plays_command}
-use Rattle.ftp_session.proofs.Handed.{copied_plays}
 use Rattle.ftp_session.proofs.Trees.{mlst_is}
 use Rattle.ftp_session.proofs.session.client.Session.mlst.Goals as goal
 
 pub text-requires : goal.text-requires
-text-requires g c =
-    let P : Call → Type 0 = GivesText in
-    (c.in-Ok.call, c.call-answer.ensures.answers, subst P (sym c.in-Ok.ensures) (refl, refl, (refl, refl, refl)))
+text-requires g c = (Mlst (option_map (λ text. text.now) c.args.path), c.made.ensures.answers, (refl, refl, (refl, refl, refl)))
 
-pub returns-in-Ok-clause-plays : goal.returns-in-Ok-clause-plays
-returns-in-Ok-clause-plays g c =
+pub returns-clause-plays : goal.returns-clause-plays
+returns-clause-plays g c =
     let coding = chosen g.E.Encoding.decoded g.E.Encoding.encoded c.args.self.now.encoding.0 in
-    rw c.text.ensures (plays_command _ coding (Mlst (option_map (λ text. text.now) c.args.path)) false _ _ _ _ _ _ (mlst_is coding (option_map (λ text. text.now) c.args.path)) refl (copied_plays _ _ c.owned.result c.in-Ok.call (Mlst (option_map (λ text. text.now) c.args.path)) _ _ _ _ _ c.in-Ok.is c.owned.ensures c.call-answer.ensures.plays))
+    rw c.text.ensures (plays_command _ coding (Mlst (option_map (λ text. text.now) c.args.path)) false _ _ _ _ _ _ (mlst_is coding (option_map (λ text. text.now) c.args.path)) refl c.made.ensures.plays)
 
-pub returns-in-Err-clause-plays : goal.returns-in-Err-clause-plays
-returns-in-Err-clause-plays g c =
-    let coding = chosen g.E.Encoding.decoded g.E.Encoding.encoded c.args.self.now.encoding.0 in
-    plays_command _ coding (Mlst (option_map (λ text. text.now) c.args.path)) false _ _ _ _ _ _ (mlst_is coding (option_map (λ text. text.now) c.args.path)) refl (c.withheld_call.ensures.plays (Mlst (option_map (λ text. text.now) c.args.path)) (refl, refl, refl))
-
-pub returns-in-Ok-clause-counts : goal.returns-in-Ok-clause-counts
-returns-in-Ok-clause-counts g c = rw c.text.ensures c.call-answer.ensures.counts
-
-pub returns-in-Err-clause-counts : goal.returns-in-Err-clause-counts
-returns-in-Err-clause-counts g c = c.withheld_call.ensures.counts
+pub returns-clause-counts : goal.returns-clause-counts
+returns-clause-counts g c = rw c.text.ensures c.made.ensures.counts
