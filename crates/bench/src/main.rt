@@ -28,17 +28,14 @@ use std::{env, thread};
 
 fn main(rt: HostRuntime) -> Result<()> {
     let words: Vec<String> = env::args(&rt)?.skip(1).collect(rt.alloc())?;
-    match words.as_slice() {
+    let words = words.as_slice();
+    match words {
         [] => bail!("usage: bench KIND AMOUNT .. | bench parse TIMES FORM"),
         [first, times, form] if first.as_str() == "parse" => {
-            parsing::run(&rt, times.as_str(), form.as_str())
+            return parsing::run(&rt, times.as_str(), form.as_str());
         }
-        kinds => measure_clients(rt, kinds),
+        _ => {}
     }
-}
-
-/// Measures the clients.
-fn measure_clients(rt: HostRuntime, words: &[String]) -> Result<()> {
     let plan = plan::read(rt.alloc(), words)?;
     let listener = TcpListener::bind(&rt, "127.0.0.1:0")?;
     let data = TcpListener::bind(&rt, "127.0.0.1:0")?;
