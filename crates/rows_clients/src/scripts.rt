@@ -12,17 +12,25 @@ pub fn play<R: Print + AllocGlobal>(rt: &R, stored: &str) -> Result<()> {
     let mut count = 0u64;
     let mut differ = 0u64;
     for section in stored.split("== ").skip(1) {
-        let (name, rest) = section.split_once('\n').unwrap_or((section, ""));
-        let (script, due) = rest.split_once("=> ").unwrap_or((rest, ""));
-        let came = played(rt.alloc(), script)?;
         count = count.saturating_add(1);
-        if came.as_str() != due {
+        if !agrees(rt, section)? {
             differ = differ.saturating_add(1);
-            println!(rt; "scripts: {name}\ndue\n{due}came\n{came}")?;
         }
     }
     println!(rt; "scripts: {count} played, {differ} differ")?;
     Ok(())
+}
+
+/// Plays a section: a name, a script, and what is due; whether that came.
+fn agrees<R: Print + AllocGlobal>(rt: &R, section: &str) -> Result<bool> {
+    let (name, rest) = section.split_once('\n').unwrap_or((section, ""));
+    let (script, due) = rest.split_once("=> ").unwrap_or((rest, ""));
+    let came = played(rt.alloc(), script)?;
+    if came.as_str() == due {
+        return Ok(true);
+    }
+    println!(rt; "scripts: {name}: {came}")?;
+    Ok(false)
 }
 
 /// The status of a script and what it wrote.
