@@ -133,12 +133,13 @@ fn file(alloc: Global, data: &[u8]) -> Result<String, AllocError> {
 /// The lines of a listing, without its empty ones (RFC 959, section 4.1.3).
 fn listing(alloc: Global, data: &[u8]) -> Result<String, AllocError> {
     let mut text = String::from_str(alloc, "lines")?;
-    let mut before = " ";
+    let mut is_first = true;
     for line in data.split(|byte| matches!(byte, b'\r' | b'\n')) {
         if !line.is_empty() {
+            let before = if is_first { " " } else { "\\n" };
+            is_first = false;
             let line = shown(alloc, line)?;
             write!(text, "{before}{line}")?;
-            before = "\\n";
         }
     }
     Ok(text)
