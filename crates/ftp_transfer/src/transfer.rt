@@ -26,7 +26,7 @@ mod task;
 pub struct Transfer<C: Tells + Drop> {
     conn: C,
     direction: Direction,
-    end: HeldEnd,
+    end: HeldEnd<C>,
 }
 
 impl<C: Tells + Drop> Model for Transfer<C> {
@@ -44,7 +44,7 @@ impl<C: Tells + Drop> Model for Transfer<C> {
 impl<C: Tells + Drop> Transfer<C> {
     ghost use Rattle.std.specs.Borrow.{Lends, sem};
     ghost use Rattle.ftp_transfer.specs.contracts.transfer.Transfer.{the_row};
-    ghost use Rattle.ftp_transfer.specs.Transfer.{looked, with_told};
+    ghost use Rattle.ftp_transfer.specs.Transfer.{WasClosed, looked, with_told};
 
     /// The data connection.
     pub fn get_ref(&self) -> &C
@@ -88,7 +88,8 @@ impl<C: Tells + Drop> Transfer<C> {
     /// Leaves the transfer: closes the data connection, then stores the mark, and returns the receipt for it. In stream
     /// mode the close is the end of an upload's file (RFC 959, section 3.4.1). An error of the close is discarded.
     pub fn leave(self) -> Left
-        ensures { result ≡ self.end }
+        ensures left { result ≡ self.end }
+        ensures closed { C.tells → WasClosed C C.told self.told }
     {
         let Transfer {
             mut conn,

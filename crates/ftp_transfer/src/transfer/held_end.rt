@@ -3,20 +3,24 @@
 //! Neither this nor a [`TransferEnd`] can be dropped: the session would then never find the mark. The ways out are to
 //! leave, which needs the closed connection, and to give the end up against the session's end of a mark, which only the
 //! session that brings the transfer to its end has.
+//!
+//! It is an end beside a connection of the type `C`. What is generic over `C` can make no such connection, so the only one
+//! that a transfer can close for its end is its own.
 
 ghost use Rattle.std.specs.Prelude.{◌≡◌, false, true};
 ghost use Rattle.ftp_transfer.specs.Mark.{loaded};
 
 use crate::mark::{Left, SessionEnd, TransferEnd};
 use ftp_transport::Tells;
-use std::marker::Model;
+use std::marker::{Model, PhantomData};
 
 /// The end of a transfer's mark, which is left only once the connection is closed.
-pub(super) struct HeldEnd {
+pub(super) struct HeldEnd<C> {
     end: TransferEnd,
+    beside: PhantomData<C>,
 }
 
-impl Model for HeldEnd {
+impl<C> Model for HeldEnd<C> {
     ghost use Rattle.ftp_transfer.specs.Mark.{End};
 
     ghost Value = { End };
@@ -24,12 +28,15 @@ impl Model for HeldEnd {
     ghost view = { λ held. held.end };
 }
 
-impl HeldEnd {
+impl<C: Tells + Drop> HeldEnd<C> {
     /// Holds an end.
-    pub(super) fn new(end: TransferEnd) -> HeldEnd
+    pub(super) fn new(end: TransferEnd) -> HeldEnd<C>
         ensures { result ≡ end }
     {
-        HeldEnd { end }
+        HeldEnd {
+            end,
+            beside: PhantomData,
+        }
     }
 
     /// The number of the transfer.
@@ -49,16 +56,16 @@ impl HeldEnd {
 
     /// Gives the mark up, for the session that brings the transfer to its end. Nothing is stored.
     pub(super) fn dissolve(self, session: SessionEnd) {
-        let HeldEnd { end } = self;
+        let HeldEnd { end, beside: _ } = self;
         session.dissolve(end);
     }
 
     /// Drops the connection, which is closed, and then stores the mark.
-    pub(super) fn leave<C: Tells + Drop>(self, conn: C) -> Left
+    pub(super) fn leave(self, conn: C) -> Left
         requires { C.tells → (C.told conn).closed_here ≡ true }
         ensures { result ≡ self }
     {
-        let HeldEnd { end } = self;
+        let HeldEnd { end, beside: _ } = self;
         drop(conn);
         end.leave()
     }
