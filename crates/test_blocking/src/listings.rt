@@ -52,10 +52,10 @@ fn files_are_listed_in_either_form_where_there_are_no_facts(rt: HostRuntime) -> 
     let replies = "502 no\r\n227 ok (10,0,0,1,4,0)\r\n150 b\r\n226 d\r\n200 ok\r\n";
     let data =
         "total 8\r\n-rw-r--r-- 1 user group 1234 Nov 5 2018 example.txt\r\n \r\n04-08-14  03:09PM  8192 omar.txt\r\n";
-    let files = listed(&rt, replies, data, None)?;
+    let files = listed(&rt, replies, data, Some("pub"))?;
     assert_eq!(rt;
         files.as_str(),
-        "example.txt 1234|omar.txt 8192|0|FEAT\r\nPASV\r\nLIST\r\nNOOP\r\n"
+        "example.txt 1234|omar.txt 8192|0|FEAT\r\nPASV\r\nLIST pub\r\nNOOP\r\n"
     );
     Ok(())
 }
@@ -76,15 +76,21 @@ fn a_line_that_cannot_be_read_is_an_error_and_the_session_goes_on(
     Ok(())
 }
 
-/// What is in a listing: each file with its size, and each line that can't be read.
-fn text_of(alloc: Global, listing: &Listing) -> Result<String, Fail> {
-    let mut text = String::new(alloc);
+/// What is in the listing of a directory: each file with its size, and each line that can't be read; and what was sent.
+fn entries<R>(rt: &R, replies: &str, data: &str) -> Result<String, Fail>
+where
+    R: Clock + Wait + AllocGlobal,
+{
+    let client = client_of(rt.alloc(), replies, data)?;
+    let listing: Box<Listing> = Box::new(rt.alloc(), client.list_entries(rt, Some("pub"))?)?;
+    let mut text = String::new(rt.alloc());
     for file in &listing.files {
         write!(text, "{} {}|", file.name(), file.size())?;
     }
     for line in &listing.unread {
         write!(text, "?{line}|")?;
     }
+    add_sent(rt, &client, &mut text)?;
     Ok(text)
 }
 
@@ -93,12 +99,11 @@ fn lines_that_cannot_be_read_leave_the_files(rt: HostRuntime) -> Result<(), Fail
     let replies = "502 no\r\n227 ok (10,0,0,1,4,0)\r\n150 b\r\n226 d\r\n";
     let data =
         "total 8\r\n-rw-r--r-- 1 user group 1234 Nov 5 2018 a.txt\r\nhello\r\n04-08-14  03:09PM  8192 b.txt\r\ntotal of 8\r\n";
-    let client = client_of(rt.alloc(), replies, data)?;
-    let listing = Box::new(rt.alloc(), client.list_entries(&rt, None)?)?;
-    drop(client);
-    let text = text_of(rt.alloc(), &listing)?;
-    drop(listing);
-    assert_eq!(rt; text.as_str(), "a.txt 1234|b.txt 8192|?hello|?total of 8|");
+    let text = entries(&rt, replies, data)?;
+    assert_eq!(rt;
+        text.as_str(),
+        "a.txt 1234|b.txt 8192|?hello|?total of 8|FEAT\r\nPASV\r\nLIST pub\r\n"
+    );
     Ok(())
 }
 
