@@ -18,22 +18,38 @@ use test_loopback::listening;
 const LINES: &[u8] =
     b"total 8\r\n-rw-r--r-- 1 user group 1234 Nov 5 2018 a.txt\r\nhello\r\n04-08-14  03:09PM  8192 b.txt\r\ntotal of 8\r\n";
 
+/// The facts of two files: two lines of the listing in RFC 3659, section 7.7.
+const FACTS: &[u8] =
+    b"Type=pdir;Modify=19990112030508;Perm=el; ..\r\nType=file;Size=25730;Modify=19940728095854;Perm=; capmux.tar.z\r\n";
+
+/// The facts of a file, and a mode that is none: its digits aren't octal.
+const MIXED: &[u8] =
+    b"unix.mode=888; x\r\nType=file;Size=25730;Modify=19940728095854;Perm=; capmux.tar.z\r\n";
+
+/// The reply to FEAT that names them: RFC 3659, section 7.8.
+const FEATURES: &[u8] = b"211-Extensions:\r\n MLST size*;type*;\r\n211 END\r\n";
+
 /// Sends a listing on the next data connection.
-fn feed(listener: &TcpListener) -> io::Result<()> {
+fn feed(listener: &TcpListener, listing: &[u8]) -> io::Result<()> {
     let (mut peer, _address) = listener.accept()?;
-    peer.write_all(LINES)
+    peer.write_all(listing)
 }
 
-/// A thread that sends a listing, which the client is told of after a refusal of FEAT.
-fn feeding<R>(rt: &R, scene: &mut Scene) -> Result<JoinHandle<io::Result<()>>, Fail>
+/// A thread that sends a listing, which the client is told of after this reply to FEAT.
+fn feeding<R>(
+    rt: &R,
+    scene: &mut Scene,
+    features: &[u8],
+    listing: &'static [u8],
+) -> Result<JoinHandle<io::Result<()>>, Fail>
 where
     R: Net<Listener = TcpListener, Stream = TcpStream> + Threads,
 {
     let (listener, address) = listening(rt)?;
-    scene.server.write_all(b"502 no\r\n")?;
+    scene.server.write_all(features)?;
     write_passive(&mut scene.server, address.port())?;
     scene.server.write_all(b"226 done\r\n")?;
-    Ok(thread::spawn(rt, move || feed(&listener))?)
+    Ok(thread::spawn(rt, move || feed(&listener, listing))?)
 }
 
 /// What is in a listing: each file with its size, and each line that can't be read.
@@ -61,7 +77,7 @@ where
 #[test]
 fn lines_that_cannot_be_read_leave_the_files(rt: HostRuntime) -> Result<(), Fail> {
     let mut scene = greeted(&rt)?;
-    let feeding = feeding(&rt, &mut scene)?;
+    let feeding = feeding(&rt, &mut scene, b"502 no\r\n", LINES)?;
     let text = listed(&rt, &mut scene)?;
     let fed = feeding.join(&rt).is_ok();
     let sent = came(&mut scene.server, b"FEAT\r\nPASV\r\nLIST pub\r\n");
@@ -71,10 +87,54 @@ fn lines_that_cannot_be_read_leave_the_files(rt: HostRuntime) -> Result<(), Fail
     Ok(())
 }
 
+/// What a client lists as files alone, each with its size.
+fn listed_files<R>(rt: &R, scene: &mut Scene) -> Result<String, Fail>
+where
+    R: Net + Wait + Clock + RandomSource + AllocGlobal,
+{
+    let files = scene.client.list_files(rt, Some("pub"));
+    let files = Box::new(rt.alloc(), scene.runtime.local().block_on(rt, files)??)?;
+    let mut text = String::new(rt.alloc());
+    for file in files.as_slice() {
+        write!(text, "{} {}|", file.name(), file.size())?;
+    }
+    Ok(text)
+}
+
+#[test]
+fn files_are_listed_by_their_facts_where_the_server_has_them(rt: HostRuntime) -> Result<(), Fail> {
+    let mut scene = greeted(&rt)?;
+    let feeding = feeding(&rt, &mut scene, FEATURES, FACTS)?;
+    let text = listed_files(&rt, &mut scene)?;
+    let fed = feeding.join(&rt).is_ok();
+    let sent = came(&mut scene.server, b"FEAT\r\nPASV\r\nMLSD pub\r\n");
+    drop(scene);
+    assert_eq!(rt;
+        (text.as_str(), fed, sent),
+        (".. 0|capmux.tar.z 25730|", true, true)
+    );
+    Ok(())
+}
+
+#[test]
+fn facts_that_cannot_be_read_leave_the_files(rt: HostRuntime) -> Result<(), Fail> {
+    let mut scene = greeted(&rt)?;
+    let feeding = feeding(&rt, &mut scene, FEATURES, MIXED)?;
+    let text = listed(&rt, &mut scene)?;
+    let fed = feeding.join(&rt).is_ok();
+    let sent = came(&mut scene.server, b"FEAT\r\nPASV\r\nMLSD pub\r\n");
+    drop(scene);
+    assert_eq!(rt;
+        (text.as_str(), fed, sent),
+        ("capmux.tar.z 25730|?unix.mode=888; x|", true, true)
+    );
+    Ok(())
+}
+
 #[test]
 fn files_are_all_or_an_error(rt: HostRuntime) -> Result<(), Fail> {
     let mut scene = greeted(&rt)?;
-    let feeding = feeding(&rt, &mut scene)?;
+    let feeding = feeding(&rt, &mut scene, b"502 no\r\n", LINES)?;
     let files = scene.client.list_files(&rt, None);
     let fault = done(&rt, &mut scene.runtime, files);
     let fed = feeding.join(&rt).is_ok();
