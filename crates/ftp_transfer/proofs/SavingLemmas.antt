@@ -11,7 +11,7 @@ use Rattle.ftp_base.specs.declared.types.fault.FtpError.{FtpError}
 use Rattle.ftp_base.specs.declared.types.fault.FtpError.TheVariants.{ConnectionError}
 use Rattle.ftp_base.specs.declared.types.fault.ConnectionError.TheVariants.{Io, SourceTooLarge}
 use Rattle.ftp_transport.specs.Told.{HasFailed, Told, after_end, after_read}
-use Rattle.ftp_transfer.specs.Saving.{Gave, SaveFails, Saves, StopsAt}
+use Rattle.ftp_transfer.specs.Saving.{EndsEarly, Gave, SaveFails, Saves, StopsAt}
 use Rattle.ftp_transfer.specs.Transfer.{TransferValue, with_told}
 
 -- a read that gave bytes
@@ -63,12 +63,16 @@ module _ (tells : Type 0) (w v : Option (List ℕ)) (old mid new : TransferValue
   data_fails kind failed = record {
     given = far.given;
     gave = record { received = λ h. ap (λ t. t.received) (failed h).same ∙ far.gave.received h; kept = stays };
-    cause = inl (far.wrote, inr (kind, refl, λ h. (counted (far.calm h) (failed h).counts.0, (failed h).counts.1)));
+    cause = inl early;
+    own = inr early;
   }
     where
       counted : mid.told.failures ≡ old.told.failures → (mid.told.failures < new.told.failures) ⊎ (new.told.failures ≡ 18446744073709551615) → (old.told.failures < new.told.failures) ⊎ (new.told.failures ≡ 18446744073709551615)
       counted same (inl more) = inl (omega (arith, same, more))
       counted same (inr full) = inr full
+
+      early : Appends w v far.given × EndsEarly tells old new (ConnectionError (Io kind))
+      early = (far.wrote, inr (kind, refl, λ h. (counted (far.calm h) (failed h).counts.0, (failed h).counts.1)))
 
   -- the writer stops: a front of what came was written
   stops : (piece : List ℕ) (u : Option (List ℕ)) (fault : FtpError) → (tells → new.told ≡ after_read piece mid.told) → AppendsFront v u piece → StopsAt (far.given ++ piece) fault → SaveFails tells w u old new fault
@@ -76,6 +80,7 @@ module _ (tells : Type 0) (w v : Option (List ℕ)) (old mid new : TransferValue
     given = far.given ++ piece;
     gave = gave_more piece came;
     cause = inr ((far.given ++ front, rest, ap (λ l. far.given ++ l) parts ∙ sym (append_assoc far.given front rest), Appends-trans w v u far.given front far.wrote wrote), is);
+    own = inl (λ h. ap (λ t. t.failures) (came h) ∙ far.calm h);
   }
 
   -- the writer failed

@@ -31,11 +31,17 @@ EndsEarly tells old new fault = (fault ≡ OutOfMemory) ⊎ ((kind : ErrorKind) 
 abbrev pub StopsAt : List ℕ → FtpError → Type 0
 StopsAt given fault = ((kind : ErrorKind) × (fault ≡ ConnectionError (Io kind))) ⊎ ((fault ≡ ConnectionError SourceTooLarge) × (most_bytes < length given))
 
--- what came before the data ended early was written; where the writer stops a front of it was
+-- the data connection counted no failure
+abbrev pub CountsNone : Type 0 → TransferValue → TransferValue → Type 0
+CountsNone tells old new = tells → new.told.failures ≡ old.told.failures
+
+-- what came before the data ended early was written; where the writer stops a front of it was. A failure of the data
+-- connection is told as its own
 pub record SaveFails (tells : Type 0) (writer writer' : Option (List ℕ)) (old new : TransferValue) (fault : FtpError) : Type 0 where
   pub given : List ℕ
   pub gave : Gave tells given old new
   pub cause : (Appends writer writer' given × EndsEarly tells old new fault) ⊎ (AppendsFront writer writer' given × StopsAt given fault)
+  pub own : CountsNone tells old new ⊎ (Appends writer writer' given × EndsEarly tells old new fault)
 
 abbrev pub Saves : Type 0 → Option (List ℕ) → Option (List ℕ) → TransferValue → TransferValue → Result ℕ FtpError → Type 0
 Saves tells writer writer' old new (Ok count) = Saved tells writer writer' old new count
