@@ -28,6 +28,7 @@ module _ (says : List ℕ → Bool → Outcome) (kept now ahead left : List ℕ)
     none = λ w. let clash : Err OutOfMemory ≡ Ok Waits = w in cc;
     goes_on = λ e. let clash : Err OutOfMemory ≡ Ok Ended = e in cc;
     answer = λ w. tt;
+    still = so_far.waits;
   }
 
 -- what was read so far, where what was looked at says nothing yet
@@ -105,6 +106,7 @@ module _ (tells : Type 0) (says : List ℕ → Bool → Outcome) (kept now later
       last = λ e. let clash : Err (Connection kind) ≡ Ok Ended = e in cc;
       all = refl;
       answer = λ w. tt;
+      still = still_waits;
       told = λ h. let P : Told → Type 0 = λ x. HasFailed kind x v in subst P (so_far.told h) (told h);
     }
 

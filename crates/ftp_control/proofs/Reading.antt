@@ -8,7 +8,7 @@ use Rattle.ftp_control.specs.declared.control.outcome.Outcome.{Outcome}
 use Rattle.ftp_control.specs.declared.control.outcome.Outcome.TheVariants.{Whole, Bad, TooLarge, Ended, Waits}
 use Rattle.ftp_control.specs.Grammar.{outcome, line_outcome, whole_lines, reply_limit}
 use Rattle.ftp_control.specs.Reading.{AnswersOutcome, GoesOn}
-use Rattle.ftp_control.specs.Inside.ReadLoop.{TakesAll, ReadsSought}
+use Rattle.ftp_control.specs.Inside.ReadLoop.{StillWaits, TakesAll, ReadsSought}
 use Rattle.ftp_control.specs.Channel.{Channel, untaken, fails_by, LeavesBytes, StaysSettled, TakesSome, ReadsReply, ReadsLine}
 use Rattle.ftp_control.proofs.Law.{answer_stays, line_answer_stays}
 use Rattle.ftp_control.proofs.Outcomes.{line_waits_on}
@@ -94,6 +94,19 @@ takes_some rule form taken ended new (Ok Ended) all is = tt
 takes_some rule form taken ended new (Ok Waits) all is = tt
 takes_some rule form taken ended new (Err broken) all is = tt
 
+-- of what is settled nothing is kept, and what is kept of anything else says nothing yet
+nothing_waits : (rule : ReplyRule) (form : ReplyForm) (kept : List ℕ) → kept ≡ [] → outcome rule form kept false ≡ Waits
+unfolding outcome
+nothing_waits rule form kept none = rw none refl
+
+kept_waits : (rule : ReplyRule) (form : ReplyForm) (old taken kept : List ℕ) (ended : Bool) (result : Result Outcome Broken) → outcome rule form old false ≡ Waits → (result ≡ Ok Waits → ended ≡ false) → TakesAll result taken kept → AnswersOutcome result (outcome rule form taken ended) → StillWaits result (outcome rule form) old kept → outcome rule form kept false ≡ Waits
+kept_waits rule form old taken kept ended (Ok (Whole reply code)) was unended all is still = nothing_waits rule form kept all.1
+kept_waits rule form old taken kept ended (Ok (Bad line)) was unended all is still = nothing_waits rule form kept all.1
+kept_waits rule form old taken kept ended (Ok TooLarge) was unended all is still = nothing_waits rule form kept all.1
+kept_waits rule form old taken kept ended (Ok Ended) was unended all is still = nothing_waits rule form kept all
+kept_waits rule form old taken kept ended (Ok Waits) was unended all is still = ap (λ bytes. outcome rule form bytes false) all ∙ ap (λ e. outcome rule form taken e) (sym (unended refl)) ∙ sym is
+kept_waits rule form old taken kept ended (Err broken) was unended all is still = still was
+
 -- what is said of the bytes that a line took is said of all
 answers_line : (taken : List ℕ) (ended : Bool) (new : Channel) → (ended ≡ true → new.ahead ≡ []) → (result : Result Outcome Broken) → (result ≡ Ok Waits → new.ahead ≡ []) → AnswersOutcome result (line_outcome taken ended) → AnswersOutcome result (line_outcome (taken ++ new.ahead) ended)
 answers_line taken ended new at_end (Ok (Whole reply code)) waits is = sym (line_answer_stays taken ended (Whole reply code) (λ w. let clash : Whole reply code ≡ Waits = w in cc) is new.ahead ended (record { nothing = at_end; over = λ e. e }))
@@ -117,6 +130,7 @@ module _ (tells : Type 0) (old new : Channel) (result : Result Outcome Broken) (
         answer = λ w. let P : List ℕ → Type 0 = λ bs. AnswersOutcome result (outcome old.rule form bs new.ended) in subst P (sym heard.split) (answers_all old.rule form heard.taken new.ended new heard.at_end result heard.none (heard.answer w));
         stays = λ w. let P : List ℕ → Type 0 = λ bs. StaysSettled result (outcome old.rule form) bs (untaken new) new.ended in subst P (sym heard.split) (stays_settled old.rule form heard.taken new.ended new heard.at_end result heard.last heard.all (heard.answer w));
         last = λ w. heard.last;
+        under_way = λ w. kept_waits old.rule form old.kept heard.taken new.kept new.ended result w heard.unended heard.all (heard.answer w) heard.still;
         told = heard.told;
         same = same;
       }

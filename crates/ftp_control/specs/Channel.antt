@@ -99,6 +99,7 @@ pub record ReadsReply (tells : Type 0) (form : ReplyForm) (old new : Channel) (r
   pub answer : outcome old.rule form old.kept false ≡ Waits → AnswersOutcome result (outcome old.rule form (untaken old ++ came) new.ended)
   pub stays : outcome old.rule form old.kept false ≡ Waits → StaysSettled result (outcome old.rule form) (untaken old ++ came) (untaken new) new.ended
   pub last : outcome old.rule form old.kept false ≡ Waits → result ≡ Ok Ended → new.ended ≡ true
+  pub under_way : outcome old.rule form old.kept false ≡ Waits → outcome old.rule form new.kept false ≡ Waits
   pub told : tells → HearTells result came new.ended old.told new.told
   pub same : new ≡ record old { told = new.told; kept = new.kept; ahead = new.ahead; ended = new.ended; failed = old.failed || fails_by result }
 

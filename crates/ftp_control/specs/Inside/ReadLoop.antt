@@ -29,6 +29,11 @@ TakesAll (Ok Ended) bytes kept' = kept' ≡ []
 TakesAll (Ok Waits) bytes kept' = kept' ≡ bytes
 TakesAll (Err broken) bytes kept' = kept' ≡ bytes
 
+-- where a read fails, what is kept says nothing yet, if it said nothing before
+abbrev pub StillWaits : Result Outcome Broken → (List ℕ → Bool → Outcome) → List ℕ → List ℕ → Type 0
+StillWaits (Ok heard) says kept kept' = Unit {0}
+StillWaits (Err broken) says kept kept' = says kept false ≡ Waits → says kept' false ≡ Waits
+
 -- a look at what lies ahead: what is said of the bytes that it took, where those kept said nothing yet
 pub record Takes (says : List ℕ → Bool → Outcome) (kept kept' ahead ahead' : List ℕ) (result : Result Outcome Broken) : Type 0 where
   pub taken : List ℕ
@@ -38,6 +43,7 @@ pub record Takes (says : List ℕ → Bool → Outcome) (kept kept' ahead ahead'
   pub none : result ≡ Ok Waits → ahead' ≡ []
   pub goes_on : result ≡ Ok Ended → ⊥
   pub answer : says kept false ≡ Waits → AnswersOutcome result (says taken false)
+  pub still : StillWaits result says kept kept'
 
 -- a run of the loop: it returns what is said of the bytes that it took of those kept, ahead and read, where those kept
 -- said nothing yet
@@ -53,4 +59,5 @@ pub record ReadsSought (tells : Type 0) (says : List ℕ → Bool → Outcome) (
   pub last : result ≡ Ok Ended → ended' ≡ true
   pub all : TakesAll result taken kept'
   pub answer : says kept false ≡ Waits → AnswersOutcome result (says taken ended')
+  pub still : StillWaits result says kept kept'
   pub told : tells → HearTells result came ended' t u
