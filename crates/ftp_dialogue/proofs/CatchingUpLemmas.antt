@@ -16,7 +16,7 @@ use Rattle.ftp_calls.specs.declared.exchange.Row.{Row}
 use Rattle.ftp_calls.specs.declared.exchange.Row.TheVariants.{Exchanges, Arms, Resyncs, Sets, Moves}
 use Rattle.ftp_calls.specs.declared.exchange.Turn.TheVariants.{First}
 use Rattle.ftp_calls.specs.declared.call.Call.{Call}
-use Rattle.ftp_dialogue.specs.CatchingUp.{After, CatchesUp, Flushes, InStepIf, MakesThen, CatchesUpReadIf, PollsReadInStep, ReadsDue, ReadsIf, PlaysInStep, TellsFault, ReadsThen, fault_told, flushing, is_behind, is_caught_up, is_late, is_plain_read, opens_beside, told_by, told_of_line}
+use Rattle.ftp_dialogue.specs.CatchingUp.{After, CatchesUp, Flushes, SendsTail, InStepIf, MakesThen, CatchesUpReadIf, PollsReadInStep, ReadsDue, ReadsIf, PlaysInStep, TellsFault, ReadsThen, fault_told, flushing, is_behind, is_caught_up, is_late, is_plain_read, opens_beside, told_by, told_of_line}
 use Rattle.ftp_dialogue.specs.Coding.{Coding}
 use Rattle.ftp_dialogue.specs.NetEvents.{Net}
 use Rattle.ftp_dialogue.specs.Dialogue.{Expected, Tree, Say, Leaf, expecting}
@@ -60,10 +60,13 @@ module _ (link : Link) (state : State) (net : Net) (a b : Channel) (line : Optio
   no_line (inl is) = is
   no_line (inr is) = is
 
+  tail_said : (answer : Poll (Result (Unit {0}) FtpError)) → SaysLine link.tells link.writes a b None line answer → SendsTail link v w (told_of_line answer)
+  tail_said (Ready (Ok done)) says = gone (steps (Ready (Ok done)) says)
+  tail_said (Ready (Err fault)) says = failed fault (steps (Ready (Err fault)) says)
+  tail_said Pending says = (waits (no_line (line_taken link state net a b None line Pending says).whole) (steps Pending says).0, record { some = says.leaves.0; full = says.leaves.1 })
+
   pub flush_said : (answer : Poll (Result (Unit {0}) FtpError)) → SaysLine link.tells link.writes a b None line answer → Flushes link v w (told_of_line answer)
-  flush_said (Ready (Ok done)) says = gone (steps (Ready (Ok done)) says)
-  flush_said (Ready (Err fault)) says = failed fault (steps (Ready (Err fault)) says)
-  flush_said Pending says = (waits (no_line (line_taken link state net a b None line Pending says).whole) (steps Pending says).0, record { some = says.leaves.0; full = says.leaves.1 })
+  flush_said answer says = record { sends = tail_said answer says; beside = (let F : Channel → SessionValue = λ c. record { channel = c; state = state; net = net } in ap F says.same) }
 
   -- it fails the session only where an error is told
   pub flush_fails : (answer : Poll (Result (Unit {0}) FtpError)) → SaysLine link.tells link.writes a b None line answer → b.failed ≡ true → (a.failed ≡ true) ⊎ TellsFault (told_of_line answer)
@@ -272,7 +275,7 @@ plays_in_step link coding call old new answer made = record { plays = step_map (
 
 -- a call whose arguments found no memory
 withheld_caught : (link : Link) (plain : Bool) (v : SessionValue) → CatchesUp link plain v v (Ready (Some OutOfMemory))
-withheld_caught link plain v = record { flushed = v; flush = Ready (Some OutOfMemory); flushes = inr (lacks_memory_first link (flushing v.state) v); then_reads = (refl, refl) }
+withheld_caught link plain v = record { flushed = v; flush = Ready (Some OutOfMemory); flushes = record { sends = inr (lacks_memory_first link (flushing v.state) v); beside = refl }; then_reads = (refl, refl) }
 
 pub withheld_in_step : (link : Link) (coding : Coding) (call : Call) (v : SessionValue) → is_local call ≡ false → of_transfer call ≡ false → PlaysInStep link coding call v v (Fault (withheld v))
 withheld_in_step link coding call v abroad none = record { plays = go (is_behind call v) refl }

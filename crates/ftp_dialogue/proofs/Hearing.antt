@@ -21,7 +21,7 @@ use Rattle.ftp_control.specs.Grammar.{outcome, left_by}
 use Rattle.ftp_transport.specs.Memory.{IsGiven}
 use Rattle.ftp_transport.specs.Told.{Told, IsDry, HasFailed, NoneFailed}
 use Rattle.ftp_control.specs.Reading.{GoesOn, HearTells, MayBreak, after_input}
-use Rattle.ftp_control.specs.Channel.{Channel, IsSound, ReadsReply, fails_by, rule_left}
+use Rattle.ftp_control.specs.Channel.{Channel, IsSound, LeavesBytes, ReadsReply, fails_by, rule_left, untaken}
 use Rattle.ftp_control.proofs.Strict.{one_form}
 use Rattle.ftp_control.specs.Answer.{AnswersRead, answer_of, expected_reply, is_among}
 use Rattle.ftp_dialogue.specs.declared.state.State.{State}
@@ -38,6 +38,8 @@ use Rattle.ftp_dialogue.specs.Resuming.{Resumes, modes_of}
 use Rattle.ftp_dialogue.specs.Within.{MayHear}
 use Rattle.ftp_dialogue.proofs.Places.{here, reply_may}
 use Rattle.ftp_dialogue.specs.Promises.{AbortsRead, begun_by, play_state, Goes, Leads, Rests}
+use Rattle.ftp_dialogue.specs.Reading.{IsReplied, LeavesReply}
+use Rattle.ftp_base.specs.declared.status.Status.{Status}
 use Rattle.ftp_dialogue.specs.Steps.Moving.{Moves, Advances, WaitsFor, Hears, Takes}
 use Rattle.ftp_dialogue.specs.Link.{Link}
 
@@ -164,6 +166,8 @@ module _ (link : Link) (state : State) (net : Net) (t : Told) (kept ahead unsent
         came = came;
         answered = [];
         goes = goes u failed came was over (fewer_left none shrinks) (input_told u came told);
+        resumes = λ r. rw none (nothing_resumes state.settings.reply_rule (next answer));
+        calm = λ calm. inl none;
         plays = λ h resumes room more e outcomes fit on.
             let s : PlayState = play_state old (came ++ more) e outcomes in
             let k : Result Response FtpError → PlayState → Played = λ a x. play room (next a) x in
@@ -181,13 +185,17 @@ module _ (link : Link) (state : State) (net : Net) (t : Told) (kept ahead unsent
             ∙ ap (λ g. k answer (record there { bytes = (kept' ++ ahead') ++ more; failed = failed; said = u.sent; local = g.local; peer = g.peer })) (sym (ap (λ x. x.given) (told h)));
       };
       state = refl;
-      resumes = λ r. rw none (nothing_resumes state.settings.reply_rule (next answer));
       keeps = λ from to silent. inl none;
-      calm = λ calm. inl none;
       shrinks = shrinks;
       says = λ line after is. let clash : Hear codes next ≡ Say (Ok line) after = is in cc;
       apart = λ apart. (refl, apart answer);
     }
+
+    -- what is kept says nothing yet, as before, and goes on by its rule
+    goes_by : (outcome by codes.form kept false ≡ Waits → outcome by codes.form kept' false ≡ Waits) → (v : Told) → Resumes (modes_of old) kept (Hear codes next) → Resumes (modes_of (new v false)) kept' (Hear codes next)
+    goes_by waits v r =
+        let P : ReplyRule → Type 0 = λ x. SaysNothingYet x codes.form kept' in
+        (rule_stays kept' by state.settings.reply_rule r.0, subst P r.0 (none_said by codes.form kept' (waits (waits_by r))))
 
     -- bytes came, and nothing was settled
     stays_on : (link.tells → (u.received ≡ t.received ++ came) × (u.given ≡ t.given) × NoneFailed t u × (u.sent ≡ t.sent)) → kept' ++ ahead' ≡ (kept ++ ahead) ++ came → link.tells → (more : List ℕ) (e : Bool) (outcomes : List NetOutcome) → play_state old (came ++ more) e outcomes ≡ play_state (new u false) more e outcomes
@@ -197,12 +205,14 @@ module _ (link : Link) (state : State) (net : Net) (t : Told) (kept ahead unsent
         ∙ ap (λ x. record s { bytes = (kept' ++ ahead') ++ more; said = x }) (sym (told h).3)
         ∙ ap (λ g. record s { bytes = (kept' ++ ahead') ++ more; said = u.sent; local = g.local; peer = g.peer }) (sym (told h).1)
 
-    leads_on : (link.tells → (u.received ≡ t.received ++ came) × (u.given ≡ t.given) × NoneFailed t u × (u.sent ≡ t.sent)) → kept' ++ ahead' ≡ (kept ++ ahead) ++ came → Leads link (Hear codes next) (Hear codes next) old (new u false)
-    leads_on told all = record {
+    leads_on : (link.tells → (u.received ≡ t.received ++ came) × (u.given ≡ t.given) × NoneFailed t u × (u.sent ≡ t.sent)) → kept' ++ ahead' ≡ (kept ++ ahead) ++ came → (outcome by codes.form kept false ≡ Waits → outcome by codes.form kept' false ≡ Waits) → Leads link (Hear codes next) (Hear codes next) old (new u false)
+    leads_on told all waits = record {
       within = inl (refl, refl);
       came = came;
       answered = [];
       goes = goes u false came was over (none_left came all) told;
+      resumes = goes_by waits u;
+      calm = λ calm. absurd calm;
       plays = λ h resumes room more e outcomes fit on. ap (λ s. play room (Hear codes next) s) (stays_on told all h more e outcomes);
     }
 
@@ -213,13 +223,9 @@ module _ (link : Link) (state : State) (net : Net) (t : Told) (kept ahead unsent
         let told' = input_told u came told in (
           record {
             moves = record {
-              leads = leads_on told' all';
+              leads = leads_on told' all' waits;
               state = refl;
-              resumes = λ r.
-                  let P : ReplyRule → Type 0 = λ x. SaysNothingYet x codes.form kept' in
-                  (rule_stays kept' by state.settings.reply_rule r.0, subst P r.0 (none_said by codes.form kept' (waits (waits_by r))));
               keeps = λ from to silent. absurd silent;
-              calm = λ calm. absurd calm;
               shrinks = let S : List ℕ → Type 0 = λ l. length l ≤ length ahead + length came in subst S (sym none) (omega arith);
               says = λ line after is. let clash : Hear codes next ≡ Say (Ok line) after = is in cc;
               apart = λ apart. (refl, apart);
@@ -227,11 +233,11 @@ module _ (link : Link) (state : State) (net : Net) (t : Told) (kept ahead unsent
             failed = refl;
           },
           inr (inl (record { codes = codes; next = next; is = refl; unended = unended; none_ahead = none; dry = dry })),
-          record { came = came; goes = goes u false came was over (none_left came all') told'; failed = refl; stays = stays_on told' all'; unended = unended; none_ahead = none; dry = dry },
+          record { came = came; goes = goes u false came was over (none_left came all') told'; failed = refl; stays = stays_on told' all'; unended = unended; none_ahead = none; dry = dry; rule = refl },
         )
 
-    fails_off : (kind : ErrorKind) → link.reads kind → kept' ++ ahead' ≡ (kept ++ ahead) ++ came → (link.tells → HasFailed kind (after_input came ended t) u) → AbortsRead link codes next (fault.ConnectionError (connection.Io kind)) old (new u true)
-    fails_off kind may all told =
+    fails_off : (kind : ErrorKind) → link.reads kind → kept' ++ ahead' ≡ (kept ++ ahead) ++ came → (outcome by codes.form kept false ≡ Waits → outcome by codes.form kept' false ≡ Waits) → (link.tells → HasFailed kind (after_input came ended t) u) → AbortsRead link codes next (fault.ConnectionError (connection.Io kind)) old (new u true)
+    fails_off kind may all waits told =
         let now : Told = record u { failures = t.failures; last_fault = t.last_fault } in
         let F : Told → Told = λ x. record x { failures = t.failures; last_fault = t.last_fault } in
         let same : link.tells → now ≡ after_input came ended t = λ h. ap F (told h).same in
@@ -255,6 +261,8 @@ module _ (link : Link) (state : State) (net : Net) (t : Told) (kept ahead unsent
           came = came;
           answered = [];
           goes = goes v false came at_hand over (none_left came all) (input_told v came same);
+          resumes = goes_by waits v;
+          calm = λ calm. absurd calm;
           plays = λ h resumes room more e outcomes fit on.
               let s : PlayState = play_state old (came ++ more) e outcomes in
               ap (λ x. play room (Hear codes next) x)
@@ -263,11 +271,11 @@ module _ (link : Link) (state : State) (net : Net) (t : Told) (kept ahead unsent
               ∙ ap (λ g. record s { bytes = (kept' ++ ahead') ++ more; said = v.sent; local = g.local; peer = g.peer }) (sym (ap (λ x. x.given) (same h))));
         }
 
-    lacks_memory : kept' ++ ahead' ≡ (kept ++ ahead) ++ came → (link.tells → u ≡ after_input came ended t) → AbortsRead link codes next fault.OutOfMemory old (new u false)
+    lacks_memory : kept' ++ ahead' ≡ (kept ++ ahead) ++ came → (outcome by codes.form kept false ≡ Waits → outcome by codes.form kept' false ≡ Waits) → (link.tells → u ≡ after_input came ended t) → AbortsRead link codes next fault.OutOfMemory old (new u false)
     unfolding leads_on
-    lacks_memory all told = record {
+    lacks_memory all waits told = record {
       at = new u false;
-      leads = leads_on (input_told u came told) all;
+      leads = leads_on (input_told u came told) all waits;
       state = refl;
       going = refl;
       cause = inr (refl, refl, record { said = λ h. ap (λ x. x.sent ++ unsent) (told h); untaken = all });
@@ -294,10 +302,9 @@ module _ (link : Link) (state : State) (net : Net) (t : Told) (kept ahead unsent
       inl (settles u reads.came reads.over was true Ended (Err (fault.ConnectionError connection.UnexpectedEof)) (inr refl) told reads.leaves.0 reads.past (λ s k. refl) reads.stays, record { other = λ e. (let clash : fault.ConnectionError connection.UnexpectedEof ≡ fault.OutOfMemory = e in cc); goes_on = λ reply' e. (let clash : fault.ConnectionError connection.UnexpectedEof ≡ fault.UnexpectedResponse reply' = e in cc) })
   hears u (Ok Waits) may was reads =
       let told : link.tells → u ≡ after_input reads.came ended t = λ h. tells_input Waits reads.came ended t u (reads.told h) in
-      waits_on u reads.came reads.over was told reads.leaves.0 reads.leaves.1 (reads.unended refl)
-      (λ r. rw (reads.leaves.0, ← reads.unended refl) (sym (reads.answer r))) (λ h. (reads.told h).1)
-  hears u (Err (Connection kind)) may was reads = inr (fails_off u reads.came reads.over was kind may reads.leaves reads.told)
-  hears u (Err OutOfMemory) may was reads = inr (lacks_memory u reads.came reads.over was reads.leaves reads.told)
+      waits_on u reads.came reads.over was told reads.leaves.0 reads.leaves.1 (reads.unended refl) reads.under_way (λ h. (reads.told h).1)
+  hears u (Err (Connection kind)) may was reads = inr (fails_off u reads.came reads.over was kind may reads.leaves reads.under_way reads.told)
+  hears u (Err OutOfMemory) may was reads = inr (lacks_memory u reads.came reads.over was reads.leaves reads.under_way reads.told)
 
 -- a reply is heard, by its own rule where it is under way, and else by the setting
 pub reply_heard : (link : Link) (state : State) (net : Net) (a ruled b : Channel) (codes : Expected) (answer : Poll (Result Response FtpError)) → a.failed ≡ false → ruled ≡ record a { rule = rule_left a.kept a.rule state.settings.reply_rule } → IsSound link.tells ruled → AnswersRead link.tells link.reads codes.form codes.statuses ruled b answer → (next : Result Response FtpError → Tree) → Hears link codes next (record { channel = a; state = state; net = net }) (record { channel = b; state = state; net = net }) answer
@@ -320,3 +327,20 @@ reply_heard link state net a ruled b codes answer going is sound read next =
         (subst Q (sym read.reads.same)
         (subst S (sym going) (hears link state net a.told a.kept a.ahead a.unsent a.ended a.rule codes next b.kept b.ahead b.ended sound b.told result read.fault read.given))
         read.reads)
+
+-- what a read leaves beside the bytes
+pub reply_left : (tells : Type 0) (faults : ErrorKind → Type 0) (state : State) (net : Net) (a ruled b : Channel) (form : ReplyForm) (statuses : List Status) (answer : Poll (Result Response FtpError)) → ruled ≡ record a { rule = rule_left a.kept a.rule state.settings.reply_rule } → AnswersRead tells faults form statuses ruled b answer → LeavesReply (record { channel = a; state = state; net = net }) (record { channel = b; state = state; net = net }) answer
+reply_left tells faults state net a ruled b form statuses answer is read = record {
+  beside = refl;
+  rule = ap (λ c. c.rule) read.reads.same ∙ ap (λ c. c.rule) is;
+  kept = λ replied. none_kept read.result (untaken ruled ++ read.reads.came) (subst IsReplied read.is replied) read.reads.leaves;
+}
+  where
+    none_kept : (result : Result Outcome Broken) (bytes : List ℕ) → IsReplied (answer_of statuses result) → LeavesBytes result bytes b → b.kept ≡ []
+    none_kept (Ok (Whole reply code)) bytes replied leaves = leaves.0
+    none_kept (Ok (Bad line)) bytes replied leaves = leaves.0
+    none_kept (Ok TooLarge) bytes replied leaves = leaves.0
+    none_kept (Ok Ended) bytes replied leaves = leaves.0
+    none_kept (Ok Waits) bytes replied leaves = absurd replied
+    none_kept (Err (Connection kind)) bytes replied leaves = absurd replied
+    none_kept (Err OutOfMemory) bytes replied leaves = absurd replied

@@ -4,6 +4,7 @@ pub mod CarryingLemmas
 pub mod CatchingUpLemmas
 pub mod DataCommands
 pub mod DrainingLemmas
+pub mod DueReplies
 pub mod NetEvents
 pub mod Faults
 pub mod FetchingLemmas

@@ -27,10 +27,10 @@ use Rattle.ftp_dialogue.specs.State.{SessionValue, LetsGo}
 use Rattle.ftp_dialogue.specs.Dialogue.{Tree, Say, Hear, Look, Ask, Build, Secure, Move, Leaf}
 use Rattle.ftp_dialogue.specs.Play.{ended, finally, play, fits, said_then}
 use Rattle.ftp_dialogue.specs.Resuming.{Resumes, Silent, modes_of}
-use Rattle.ftp_dialogue.specs.Promises.{IsFault, IsOf, However, SaidOrTaken, play_state, Rests, Goes, Leads, Fails, Touched, Untouched, LacksMemory, Aborts, KeepsNoReply, failed_from, lacking_at, state_at}
+use Rattle.ftp_dialogue.specs.Promises.{IsFault, IsOf, However, SaidOrTaken, play_state, Rests, Goes, Leads, Fails, Touched, Untouched, LacksMemory, Aborts, Calm, Keeps, failed_from, lacking_at, state_at}
 use Rattle.ftp_dialogue.specs.Within.{Within}
 use Rattle.ftp_dialogue.proofs.Places.{here, within_on}
-use Rattle.ftp_dialogue.specs.Steps.Moving.{NothingTouched, StillSays, HasGoneOut, Keeps, Shrinks, Calm, Moves, Advances, Ends, WaitsFor, Steps, TakesLine, after_line, step_of}
+use Rattle.ftp_dialogue.specs.Steps.Moving.{NothingTouched, StillSays, HasGoneOut, Shrinks, Moves, Advances, Ends, WaitsFor, Steps, TakesLine, after_line, step_of}
 use Rattle.ftp_dialogue.specs.Link.{Link}
 
 pub play-Say : (room : Room) (line : List ℕ) (next : Tree) (s : PlayState) → play room (Say (Ok line) next) s ≡ said_then room line s (λ t. play room next t)
@@ -77,6 +77,8 @@ nothing_leads link tree v = record {
   came = [];
   answered = [];
   goes = nothing_goes link v;
+  resumes = λ r. r;
+  calm = λ calm. inr (refl, refl, refl, calm, refl);
   plays = λ h resumes room more ended outcomes fit on. refl;
 }
 
@@ -89,9 +91,7 @@ stays_put link tree tree' v same =
       moves = record {
         leads = nothing_leads link tree v;
         state = refl;
-        resumes = λ r. r;
         keeps = λ from to silent. inr (refl, refl, refl, silent, refl);
-        calm = λ calm. inr (refl, refl, refl, calm, refl);
         shrinks = nothing_shrinks (length v.channel.ahead);
         says = λ line next is h. inl (record { rest = line; next = next; is = is; count = refl; resumes = λ rule kept r. r; plays = λ room more ended outcomes fit on. refl });
         apart = λ apart. (refl, apart);
@@ -153,6 +153,8 @@ module _ (link : Link) (state : State) (net : Net) (a : Channel) (told : Told) (
           came = [];
           answered = [];
           goes = said_goes says.hears_nothing says.leaves.3 says.sends (λ h. said_grows line line' says.whole (says.said h));
+          resumes = λ r. r;
+          calm = λ calm. inr (refl, refl, refl, tt, refl);
           plays = λ h resumes room more ended outcomes fit on.
               let all : told.sent ≡ a.told.sent ++ a.unsent ++ due line = joined_whole a.told.sent told.sent a.unsent unsent (due line) (due line') says.leaves.0 (ap due says.leaves.1) (says.said h) in
               let room_for = room_fits room told.sent fit in
@@ -160,9 +162,7 @@ module _ (link : Link) (state : State) (net : Net) (a : Channel) (told : Told) (
               play-Say room (due line) next _ ∙ rw (← all, room_for, says.leaves.0, says.leaves.2, given) refl;
         };
         state = refl;
-        resumes = λ r. r;
         keeps = λ from to silent. inr (refl, refl, refl, silent, refl);
-        calm = λ calm. inr (refl, refl, refl, tt, refl);
         shrinks = nothing_shrinks (length a.ahead);
         says = λ l n is h.
             let all : told.sent ≡ a.told.sent ++ a.unsent ++ due line = joined_whole a.told.sent told.sent a.unsent unsent (due line) (due line') says.leaves.0 (ap due says.leaves.1) (says.said h) in
@@ -189,6 +189,8 @@ module _ (link : Link) (state : State) (net : Net) (a : Channel) (told : Told) (
       came = [];
       answered = [];
       goes = goes;
+      resumes = λ r. r;
+      calm = λ calm. inr (refl, refl, refl, tt, refl);
       plays = λ h resumes. said_part_plays going (goes.given h) (said h);
     }
 
@@ -200,9 +202,7 @@ module _ (link : Link) (state : State) (net : Net) (a : Channel) (told : Told) (
         moves = record {
           leads = said_part says.whole says.leaves.2 says.said (said_goes says.hears_nothing says.leaves.3 says.sends (λ h. said_grows line line' says.whole (says.said h)));
           state = refl;
-          resumes = λ r. r;
           keeps = λ from to silent. inr (refl, refl, refl, silent, refl);
-          calm = λ calm. inr (refl, refl, refl, tt, refl);
           shrinks = nothing_shrinks (length a.ahead);
           says = λ l n is h. inl (record {
             rest = due line';
@@ -275,11 +275,6 @@ line_said link state net a b line line' answer going says begun next =
 
 -- A dialogue ends
 
--- what is kept of a reply under way
-kept_none : (untouched : Type 0) (came : List ℕ) (old new : SessionValue) → Keeps untouched came old new → KeepsNoReply came old new
-kept_none untouched came old new (inl none) = inl none
-kept_none untouched came old new (inr same) = inr (same.0, same.2, same.4)
-
 -- a leaf was reached, and only the state changes
 pub leaf_ends : (link : Link) (tree : Tree) (answer : Answer) (old mid new : SessionValue) → Moves link tree (Leaf answer new.state) old mid → (mid.channel.failed ≡ true → (old.channel.failed ≡ true) ⊎ IsFault answer) → new.channel ≡ mid.channel → new.net ≡ mid.net → Ends link tree answer old new
 leaf_ends link tree answer old mid new moves fails channel net =
@@ -292,14 +287,13 @@ leaf_ends link tree answer old mid new moves fails channel net =
         came = moves.leads.came;
         answered = moves.leads.answered;
         goes = record { over = moves.leads.goes.over; received = moves.leads.goes.received; given = moves.leads.goes.given; failures = moves.leads.goes.failures; sent = moves.leads.goes.sent; said = moves.leads.goes.said; untaken = moves.leads.goes.untaken; at_hand = moves.leads.goes.at_hand; net_events = moves.leads.goes.net_events };
-        keeps = kept_none (Silent old.state new.state tree) moves.leads.came old mid (moves.keeps old.state new.state refl);
+        keeps = moves.leads.calm tt;
         plays = λ h resumes room more ended outcomes fit on.
             moves.leads.plays h resumes room more ended outcomes fit on ∙ play-Leaf room answer new.state (play_state mid more ended outcomes);
         fails = fails;
       };
       fails = fails;
       keeps = moves.keeps old.state new.state refl;
-      calm = moves.calm tt;
       shrinks = moves.shrinks;
       gone = λ line next is h. out line (moves.says line next is h);
     })
@@ -316,13 +310,12 @@ refused_line link cause next v = record {
     came = [];
     answered = [];
     goes = nothing_goes link v;
-    keeps = inr (refl, refl, refl);
+    keeps = inr (refl, refl, refl, tt, refl);
     plays = λ h resumes room more ended outcomes fit on. play-Refused room cause next _;
     fails = λ f. inl f;
   };
   fails = λ f. inl f;
   keeps = inr (refl, refl, refl, refl, refl);
-  calm = inr (refl, refl, refl, tt, refl);
   shrinks = nothing_shrinks (length v.channel.ahead);
   gone = λ line after is h. let clash : Say (Err cause) next ≡ Say (Ok line) after = is in cc;
 }
@@ -445,9 +438,11 @@ module _ (link : Link) (tree tree' : Tree) (a b c : SessionValue) (first : Moves
     came = first.leads.came ++ second.came;
     answered = first.leads.answered ++ second.answered;
     goes = joined_goes link first.leads.came second.came first.leads.answered second.answered a b c first.leads.goes second.goes;
+    resumes = λ r. second.resumes (first.leads.resumes r);
+    calm = λ calm. keeps_after (Calm tree) (Calm tree') first.leads.came second.came a b c first.leads.calm (second.calm calm);
     plays = λ h resumes room more ended outcomes fit on.
         first_plays second.came second.answered second.goes h (first.leads.plays h resumes) room more ended outcomes fit on
-        ∙ second.plays h (first.resumes resumes) room more ended outcomes fit on;
+        ∙ second.plays h (first.leads.resumes resumes) room more ended outcomes fit on;
   }
 
   -- a step after others
@@ -456,9 +451,7 @@ module _ (link : Link) (tree tree' : Tree) (a b c : SessionValue) (first : Moves
   moves_on last second = record {
     leads = leads_on last second.leads;
     state = second.state ∙ first.state;
-    resumes = λ r. second.resumes (first.resumes r);
     keeps = λ from to silent. keeps_after (Silent from to tree) (Silent from to tree') first.leads.came second.leads.came a b c (first.keeps from to) (second.keeps from to silent);
-    calm = λ calm. keeps_after (Calm tree) (Calm tree') first.leads.came second.leads.came a b c first.calm (second.calm calm);
     shrinks = shrinks_after first.leads.came second.leads.came a b c first.shrinks second.shrinks;
     says = λ line next is h. saying line h (first.says line next is h);
     apart = λ apart.
@@ -493,14 +486,13 @@ module _ (link : Link) (tree tree' : Tree) (a b c : SessionValue) (first : Moves
       came = first.leads.came ++ second.completes.came;
       answered = first.leads.answered ++ second.completes.answered;
       goes = joined_goes link first.leads.came second.completes.came first.leads.answered second.completes.answered a b c first.leads.goes second.completes.goes;
-      keeps = kept_none (Silent a.state c.state tree) (first.leads.came ++ second.completes.came) a c kept;
+      keeps = keeps_after (Calm tree) (Calm tree') first.leads.came second.completes.came a b c first.leads.calm second.completes.keeps;
       plays = λ h resumes room more ended outcomes fit on.
           first_plays second.completes.came second.completes.answered second.completes.goes h (first.leads.plays h resumes) room more ended outcomes fit on
-          ∙ second.completes.plays h (first.resumes resumes) room more ended outcomes fit on;
+          ∙ second.completes.plays h (first.leads.resumes resumes) room more ended outcomes fit on;
       fails = λ f. failing (second.fails f);
     };
     keeps = kept;
-    calm = keeps_after (Calm tree) (Calm tree') first.leads.came second.completes.came a b c first.calm second.calm;
     shrinks = shrinks_after first.leads.came second.completes.came a b c first.shrinks second.shrinks;
     gone = λ line next is h. out line h (first.says line next is h);
   }
@@ -541,10 +533,12 @@ module _ (link : Link) (tree tree' : Tree) (a b c : SessionValue) (first : Moves
         came = first.leads.came ++ second.leads.came;
         answered = first.leads.answered ++ second.leads.answered;
         goes = joined_goes link first.leads.came second.leads.came first.leads.answered second.leads.answered a b second.at first.leads.goes second.leads.goes;
+        resumes = λ r. second.leads.resumes (first.leads.resumes r);
+        calm = λ calm. keeps_after (Calm tree) (Calm tree') first.leads.came second.leads.came a b second.at first.leads.calm (second.leads.calm calm);
         plays = λ h resumes room more ended outcomes fit on.
             rw (append_assoc first.leads.came second.leads.came more, outcomes-append first.leads.answered second.leads.answered, append_assoc (outcomes_of first.leads.answered) (outcomes_of second.leads.answered) outcomes)
             (first.leads.plays h resumes room (second.leads.came ++ more) ended (outcomes_of second.leads.answered ++ outcomes) (fitted room _ _ (second.leads.goes.sent h) fit) (goes_after b.channel.ended second.leads.came more second.at.channel.ended ended second.leads.goes.over on))
-            ∙ second.leads.plays h (first.resumes resumes) room more ended outcomes fit on;
+            ∙ second.leads.plays h (first.leads.resumes resumes) room more ended outcomes fit on;
       }
 
       go : Fails link second.place second.fault second.at c ⊎ LacksMemory link begun' tree' second.place second.leads.came second.fault b second.at c → Fails link second.place second.fault second.at c ⊎ LacksMemory link begun tree second.place leads_at.came second.fault a second.at c
@@ -627,7 +621,7 @@ finishes link tree answer old last new lets ends =
           ∙ ap (played.Done answer) (ended_play_state link.tells last there h is more over outcomes);
       fails = ends.fails;
       keeps = ends.keeps;
-      calm = ends.calm;
+      calm = ends.completes.keeps;
       shrinks = ends.shrinks;
       gone = ends.gone;
     })

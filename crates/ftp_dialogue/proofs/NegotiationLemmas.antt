@@ -141,15 +141,15 @@ module _ (link : Link) (old : SessionValue) (net' : Net) where
           came = [];
           answered = Requested request outcome ∷ [];
           goes = beside_goes (Requested request outcome ∷ []) (λ h. (net', tie h, refl));
+          resumes = λ r. r outcome;
+          calm = λ calm. inr (refl, refl, refl, tt, refl);
           plays = λ h resumes room more ended outcomes fit on.
               let s : PlayState = play_state old more ended outcomes in
               play-Ask room request next outcome outcomes s
               ∙ ap (λ d. play room (next outcome) (record s { net_record = d })) (sym (net_record_after_request request outcome old.net net' (tie h)));
         };
         state = refl;
-        resumes = λ r. r outcome;
         keeps = λ from to silent. inr (refl, refl, refl, (outcome, silent), refl);
-        calm = λ calm. inr (refl, refl, refl, tt, refl);
         shrinks = nothing_shrinks (length old.channel.ahead);
         says = λ line next' is. let clash : Ask request next ≡ Say (Ok line) next' = is in cc;
         apart = λ apart. absurd apart;
@@ -170,15 +170,15 @@ module _ (link : Link) (old : SessionValue) (net' : Net) where
           came = [];
           answered = Constructed address fault ∷ [];
           goes = beside_goes (Constructed address fault ∷ []) (λ h. (net', tie h, refl));
+          resumes = λ r. r fault;
+          calm = λ calm. inr (refl, refl, refl, tt, refl);
           plays = λ h resumes room more ended outcomes fit on.
               let s : PlayState = play_state old more ended outcomes in
               play-Build room address next fault outcomes s
               ∙ ap (λ d. play room (next fault) (record s { net_record = d })) (sym (net_record_constructed link.beside address fault old.net net' (tie h)));
         };
         state = refl;
-        resumes = λ r. r fault;
         keeps = λ from to silent. inr (refl, refl, refl, (fault, silent), refl);
-        calm = λ calm. inr (refl, refl, refl, tt, refl);
         shrinks = nothing_shrinks (length old.channel.ahead);
         says = λ line next' is. let clash : Build address next ≡ Say (Ok line) next' = is in cc;
         apart = λ apart. absurd apart;
@@ -199,15 +199,15 @@ module _ (link : Link) (old : SessionValue) (net' : Net) where
           came = [];
           answered = Handshook fault ∷ [];
           goes = beside_goes (Handshook fault ∷ []) (λ h. (net', tie h, refl));
+          resumes = λ r. r fault;
+          calm = λ calm. inr (refl, refl, refl, tt, refl);
           plays = λ h resumes room more ended outcomes fit on.
               let s : PlayState = play_state old more ended outcomes in
               play-Secure room next fault outcomes s
               ∙ ap (λ d. play room (next fault) (record s { net_record = d })) (sym (net_record_handshook link.beside fault old.net net' (tie h)));
         };
         state = refl;
-        resumes = λ r. r fault;
         keeps = λ from to silent. inr (refl, refl, refl, (fault, silent), refl);
-        calm = λ calm. inr (refl, refl, refl, tt, refl);
         shrinks = nothing_shrinks (length old.channel.ahead);
         says = λ line next' is. let clash : Secure next ≡ Say (Ok line) next' = is in cc;
         apart = λ apart. absurd apart;
@@ -228,15 +228,15 @@ module _ (link : Link) (old : SessionValue) (net' : Net) where
           came = [];
           answered = Dropped ∷ [];
           goes = beside_goes (Dropped ∷ []) (λ h. (net', tie h, refl));
+          resumes = λ r. r;
+          calm = λ calm. inr (refl, refl, refl, tt, refl);
           plays = λ h resumes room more ended outcomes fit on.
               let s : PlayState = play_state old more ended outcomes in
               play-Secures room next None s
               ∙ ap (λ d. play room (Secure next) (record s { net_record = d })) (ap net_record_of (sym (tie h)));
         };
         state = refl;
-        resumes = λ r. r;
         keeps = λ from to silent. inr (refl, refl, refl, silent, refl);
-        calm = λ calm. inr (refl, refl, refl, tt, refl);
         shrinks = nothing_shrinks (length old.channel.ahead);
         says = λ line next' is. let clash : Secure next ≡ Say (Ok line) next' = is in cc;
         apart = λ apart. absurd apart;
@@ -257,15 +257,15 @@ module _ (link : Link) (old : SessionValue) (net' : Net) where
           came = [];
           answered = Moved moves outcome ∷ [];
           goes = beside_goes (Moved moves outcome ∷ []) (λ h. (net', tie h, refl));
+          resumes = λ r. r outcome;
+          calm = λ calm. inr (refl, refl, refl, tt, refl);
           plays = λ h resumes room more ended outcomes fit on.
               let s : PlayState = play_state old more ended outcomes in
               play-Move room moves next outcome outcomes s (tie h).0
               ∙ ap (λ d. play room (next outcome) (record s { net_record = d })) (sym (net_record_moved moves outcome old.net net' (tie h)));
         };
         state = refl;
-        resumes = λ r. r outcome;
         keeps = λ from to silent. inr (refl, refl, refl, (outcome, silent), refl);
-        calm = λ calm. inr (refl, refl, refl, tt, refl);
         shrinks = nothing_shrinks (length old.channel.ahead);
         says = λ line next' is. let clash : Move moves next ≡ Say (Ok line) next' = is in cc;
         apart = λ apart. absurd apart;
@@ -286,12 +286,12 @@ module _ (link : Link) (old : SessionValue) (net' : Net) where
           came = [];
           answered = [];
           goes = beside_goes [] tie;
+          resumes = λ r. r;
+          calm = λ calm. inr (refl, refl, refl, calm, refl);
           plays = λ h resumes. same h;
         };
         state = refl;
-        resumes = λ r. r;
         keeps = λ from to silent. inr (refl, refl, refl, silent, refl);
-        calm = λ calm. inr (refl, refl, refl, calm, refl);
         shrinks = nothing_shrinks (length old.channel.ahead);
         says = λ line next is h. inl (record { rest = line; next = next; is = is; count = refl; resumes = λ rule kept r. r; plays = same h });
         apart = λ apart. (refl, apart);
@@ -372,12 +372,12 @@ dropped_still link deadline next v = record {
         came = [];
         answered = Dropped ∷ [];
         goes = beside_goes link v (record v.net { data_conn = None }) (Dropped ∷ []) (λ h. (record v.net { data_conn = None }, refl, refl));
+        resumes = λ r. r;
+        calm = λ calm. inr (refl, refl, refl, tt, refl);
         plays = λ h resumes room more ended outcomes fit on. play-Accept room deadline next None (play_state v more ended outcomes);
       };
       state = refl;
-      resumes = λ r. r;
       keeps = λ from to silent. inr (refl, refl, refl, silent, refl);
-      calm = λ calm. inr (refl, refl, refl, tt, refl);
       shrinks = nothing_shrinks (length v.channel.ahead);
       says = λ line next' is. let clash : Ask (Accept deadline) next ≡ Say (Ok line) next' = is in cc;
       apart = λ apart. absurd apart;
@@ -416,6 +416,8 @@ module _ (link : Link) (old : SessionValue) (told' : Told) where
             at_hand = λ h is. (let P : Told → Type 0 = IsGiven in subst P (sym (tie h).1) is);
             net_events = λ h. refl;
           };
+          resumes = λ r. r address;
+          calm = λ calm. inr (refl, refl, refl, tt, refl);
           plays = λ h resumes room more ended outcomes fit on.
               let s : PlayState = play_state old more ended outcomes in
               play-Look room end next s
@@ -423,9 +425,7 @@ module _ (link : Link) (old : SessionValue) (told' : Told) where
               ∙ ap (λ t. play room (next address) (play_state (with_told t) more ended outcomes)) (sym (tie h).1);
         };
         state = refl;
-        resumes = λ r. r address;
         keeps = λ from to silent. inr (refl, refl, refl, (address, silent), refl);
-        calm = λ calm. inr (refl, refl, refl, tt, refl);
         shrinks = nothing_shrinks (length old.channel.ahead);
         says = λ line next' is. let clash : Look end next ≡ Say (Ok line) next' = is in cc;
         apart = λ apart. (refl, apart address);

@@ -376,7 +376,7 @@ aborts_after link tree tree' a b c begun answer still second = record {
     came = still.advances.moves.leads.came ++ second.leads.came
 
     touched : Touched link tree' b second.at → Touched link tree a second.at
-    touched here = λ h resumes. back_to link a b second.at still h (here h (still.advances.moves.resumes resumes))
+    touched here = λ h resumes. back_to link a b second.at still h (here h (still.advances.moves.leads.resumes resumes))
 
     quiet : Untouched link second.leads.came b second.at → Untouched link came a second.at
     quiet here = record {
@@ -439,7 +439,7 @@ module _ (link : Link) (coding : Coding) (call : Call) (stage stage' : Stage) (a
 
           first_of : Speaks (remaining coding call a.state stage) ⊎ Resumes (modes_of a) a.channel.kept (remaining coding call a.state stage) → Speaks (remaining coding call a.state stage') ⊎ Resumes (modes_of b) b.channel.kept (remaining coding call a.state stage')
           first_of (inl speaks) = inl (quiet.speaks speaks)
-          first_of (inr resumes) = inr (so_far.moved.moves.resumes resumes)
+          first_of (inr resumes) = inr (so_far.moved.moves.leads.resumes resumes)
 
       go : (x : Bool) → begun_at stage' ≡ x → (begun_at stage' ≡ true) ⊎ BeginsHere link (remaining coding call b.state stage') b c → (begun_at stage ≡ true) ⊎ BeginsHere link (remaining coding call a.state stage) a c
       go true has here = before (so_far.begun.0 has)

@@ -16,6 +16,7 @@ use Rattle.ftp_dialogue.specs.Dialogue.{Expected, Tree, Say, Leaf, expecting}
 use Rattle.ftp_dialogue.specs.Link.{Link, unasked}
 use Rattle.ftp_dialogue.specs.Promises.{Aborts, Completes, Leads, Plays}
 use Rattle.ftp_dialogue.specs.Reading.{PollsRead, ReadsAlone}
+use Rattle.ftp_dialogue.specs.Resuming.{Resumes, modes_of}
 use Rattle.ftp_dialogue.specs.Sound.{none_left, some_live}
 use Rattle.ftp_dialogue.specs.State.{SessionValue}
 use Rattle.ftp_dialogue.specs.Unanswered.{most_commands}
@@ -47,10 +48,15 @@ pub record AwaitsRoom (link : Link) (v : SessionValue) : Type 0 where
   pub some : v.channel.unsent ≡ [] → ⊥
   pub full : link.tells → IsFull v.channel.told
 
-abbrev pub Flushes : Link → SessionValue → SessionValue → Poll (Option FtpError) → Type 0
-Flushes link old new (Ready None) = Completes link (flushing old.state) Nothing old new
-Flushes link old new (Ready (Some fault)) = Completes link (flushing old.state) (Fault fault) old new ⊎ Aborts link false (flushing old.state) (Fault fault) old new
-Flushes link old new Pending = Leads link (flushing old.state) (flushing old.state) old new × AwaitsRoom link new
+abbrev pub SendsTail : Link → SessionValue → SessionValue → Poll (Option FtpError) → Type 0
+SendsTail link old new (Ready None) = Completes link (flushing old.state) Nothing old new
+SendsTail link old new (Ready (Some fault)) = Completes link (flushing old.state) (Fault fault) old new ⊎ Aborts link false (flushing old.state) (Fault fault) old new
+SendsTail link old new Pending = Leads link (flushing old.state) (flushing old.state) old new × AwaitsRoom link new
+
+-- and nothing else happens: neither to what was received nor to the state
+pub record Flushes (link : Link) (old new : SessionValue) (result : Poll (Option FtpError)) : Type 0 where
+  pub sends : SendsTail link old new result
+  pub beside : new ≡ record old { channel = record old.channel { told = new.channel.told; unsent = new.channel.unsent; failed = new.channel.failed } }
 
 -- a line went out, or is waited for, or this is why it can't
 abbrev pub told_of_line : Poll (Result (Unit {0}) FtpError) → Poll (Option FtpError)
@@ -107,6 +113,11 @@ pub record CatchesUp (link : Link) (plain : Bool) (old new : SessionValue) (resu
   pub flush : Poll (Option FtpError)
   pub flushes : Flushes link old flushed flush
   pub then_reads : After (ReadsDue plain most_commands link) flush flushed new result
+
+-- nothing is kept of a reply, so whatever is read next begins anew, by the setting
+pub record BeginsAnew (v : SessionValue) : Type 0 where
+  pub none : v.channel.kept ≡ []
+  pub resumes : (tree : Tree) → Resumes (modes_of v) v.channel.kept tree
 
 -- then the call is made, but for a read of the last reply of a transfer that was left, which is among them; an error is
 -- the answer

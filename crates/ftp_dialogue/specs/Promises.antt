@@ -23,6 +23,7 @@ use Rattle.ftp_transport.specs.Told.{Told, HasRoomFor, HasFailed, IsDry, NoneFai
 use Rattle.ftp_transport.specs.Memory.{IsGiven}
 use Rattle.ftp_control.specs.Reading.{GoesOn as GoesBeyond}
 use Rattle.ftp_control.specs.Channel.{untaken}
+use Rattle.ftp_control.specs.declared.control.rule.ReplyRule.{ReplyRule}
 use Rattle.ftp_control.specs.Saying.{said}
 use Rattle.ftp_calls.specs.declared.call.Answer.{Answer}
 use Rattle.ftp_calls.specs.declared.call.Answer.TheVariants.{Fault}
@@ -197,17 +198,32 @@ pub record Goes (link : Link) (came : List ℕ) (answered : List NetEvent) (old 
   pub at_hand : link.tells → IsGiven old.channel.told → IsGiven new.channel.told
   pub net_events : link.tells → NetEvents link.beside answered old.net new.net
 
--- one tree is left of another, and is a place of it
+-- no reply is read first
+abbrev pub Calm : Tree → Type 0
+Calm (Say line next) = Unit {0}
+Calm (Hear codes next) = ⊥
+Calm (Look end next) = Unit {0}
+Calm (Ask request next) = Unit {0}
+Calm (Build address next) = Unit {0}
+Calm (Secure next) = Unit {0}
+Calm (Move movement next) = Unit {0}
+Calm (Leaf answer state) = Unit {0}
+
+-- what is kept of a reply afterwards: nothing, as after a whole one; or nothing was read, and what was kept and lay ahead
+-- stays, by its rule
+abbrev pub Keeps : Type 0 → List ℕ → SessionValue → SessionValue → Type 0
+Keeps unread came old new = (new.channel.kept ≡ []) ⊎ ((new.channel.kept ≡ old.channel.kept) × (new.channel.ahead ≡ old.channel.ahead) × (came ≡ []) × unread × (new.channel.rule ≡ old.channel.rule))
+
+-- one tree is left of another, and is a place of it; a reply under way there goes on as it began, and where none is read
+-- next nothing is kept of one that wasn't before
 pub record Leads (link : Link) (tree tree' : Tree) (old new : SessionValue) : Type 0 where
   pub came : List ℕ
   pub answered : List NetEvent
   pub within : Within (outcomes_of answered) tree' tree
   pub goes : Goes link came answered old new
+  pub resumes : Resumes (modes_of old) old.channel.kept tree → Resumes (modes_of new) new.channel.kept tree'
+  pub calm : Calm tree' → Keeps (Calm tree) came old new
   pub plays : link.tells → Resumes (modes_of old) old.channel.kept tree → However old came answered new (λ room s t. play room tree s ≡ play room tree' t)
-
--- of a reply under way nothing is kept, as after a reply; or what was, by its rule, where nothing came
-abbrev pub KeepsNoReply : List ℕ → SessionValue → SessionValue → Type 0
-KeepsNoReply came old new = (new.channel.kept ≡ []) ⊎ ((new.channel.kept ≡ old.channel.kept) × (came ≡ []) × (new.channel.rule ≡ old.channel.rule))
 
 -- these outcomes lead to a leaf of the tree with this answer and this state, or to a line that can't be said, whose error is
 -- the answer
@@ -221,7 +237,7 @@ pub record Completes (link : Link) (tree : Tree) (answer : Answer) (old new : Se
   pub answered : List NetEvent
   pub is_of : IsOf (outcomes_of answered) answer new.state tree
   pub goes : Goes link came answered old new
-  pub keeps : KeepsNoReply came old new
+  pub keeps : Keeps (Calm tree) came old new
   pub plays : link.tells → Resumes (modes_of old) old.channel.kept tree → However old came answered new (λ room s t. play room tree s ≡ played.Done answer t)
   pub fails : new.channel.failed ≡ true → (old.channel.failed ≡ true) ⊎ IsFault answer
 
@@ -389,8 +405,12 @@ DrainsIf false Makes call old new answer = Makes call old new answer
 pub record Plays (link : Link) (coding : Coding) (call : Call) (old new : SessionValue) (answer : Answer) : Type 0 where
   pub makes : DrainsIf (due_of call old) (PlaysAlone link coding) call old new answer
 
+-- the rule by which a reply is read: its own, where a byte of it was kept, and else the setting
+abbrev pub reply_rule_of : SessionValue → ReplyRule
+reply_rule_of v = (modes_of v).under
+
 -- a read that waits leaves a run where it stood: what came is untaken, and nothing else happened; all that
--- came was looked at, nothing more is there, and more may come
+-- came was looked at, nothing more is there, and more may come; what is kept goes on by its rule
 pub record Rests (link : Link) (old new : SessionValue) : Type 0 where
   pub came : List ℕ
   pub goes : Goes link came [] old new
@@ -399,6 +419,7 @@ pub record Rests (link : Link) (old new : SessionValue) : Type 0 where
   pub unended : new.channel.ended ≡ false
   pub none_ahead : new.channel.ahead ≡ []
   pub dry : link.tells → IsDry new.channel.told
+  pub rule : new.channel.rule ≡ reply_rule_of old
 
 -- the connection failed in a read, which was counted
 pub record FailsRead (link : Link) (fault : FtpError) (at new : SessionValue) : Type 0 where

@@ -13,7 +13,7 @@ use Rattle.ftp_dialogue.specs.State.{SessionValue}
 use Rattle.ftp_dialogue.specs.Coding.{Coding}
 use Rattle.ftp_dialogue.specs.Dialogue.{Expected, Tree}
 use Rattle.ftp_dialogue.specs.Link.{Link}
-use Rattle.ftp_dialogue.specs.Promises.{PlaysAlone, Reads, Rests, due_of}
+use Rattle.ftp_dialogue.specs.Promises.{PlaysAlone, Reads, Rests, due_of, reply_rule_of}
 use Rattle.ftp_dialogue.specs.Unanswered.{after_heard}
 use Rattle.ftp_dialogue.specs.declared.state.State.{State}
 
@@ -29,10 +29,18 @@ IsReplied (Ready (Ok reply)) = Unit {0}
 IsReplied (Ready (Err (UnexpectedResponse reply))) = Unit {0}
 IsReplied other = ⊥
 
+-- what a read leaves beside the bytes: the state as it was, the reply under way by its rule, and after a whole reply nothing
+-- is kept
+pub record LeavesReply (old new : SessionValue) (result : Poll (Result Response FtpError)) : Type 0 where
+  pub beside : new ≡ record old { channel = new.channel }
+  pub rule : new.channel.rule ≡ reply_rule_of old
+  pub kept : IsReplied result → new.channel.kept ≡ []
+
 pub record ReadsCounted (link : Link) (codes : Expected) (old new : SessionValue) (result : Poll (Result Response FtpError)) : Type 0 where
   pub last : SessionValue
   pub reads : (next : Result Response FtpError → Tree) → Reads link codes next old last result
-  pub counts : new ≡ record last { state = after_poll result last.state }
+  pub leaves : LeavesReply old last result
+  pub counts : new ≡ record last { state = after_poll result old.state }
   pub goes_on : IsReplied result → last.channel.failed ≡ old.channel.failed
 
 -- a read by itself: a session that has failed reads nothing

@@ -1,11 +1,16 @@
-//! Laws of the calls that open a data connection, each the contract of a function that does nothing else.
+//! Laws of the dialogues, each the contract of a function that does nothing else.
 //!
-//! These are RETR, STOR and APPE (RFC 959, section 4.1.3) and a caller's own data commands. What such a call results in
+//! The first are of the calls that open a data connection: RETR, STOR and APPE (RFC 959, section 4.1.3) and a caller's own
+//! data commands. What such a call results in
 //! is defined by its dialogue, which is long. These laws say of each such dialogue, whatever the server sends, what a
 //! reader of the RFCs would ask first. A run that isn't aborted results in what the definition says (`Session::run`:
 //! `runs`), so they hold of its calls.
 
-ghost use Rattle.std.specs.Prelude.{◌≡◌, ℕ, true, false};
+ghost use Rattle.std.specs.Prelude.{◌≡◌, ◌==◌, ℕ, None, true, false};
+ghost use Rattle.futures.specs.declared.task.Poll.TheVariants.{Ready};
+ghost use Rattle.ftp_dialogue.specs.CatchingUp.{BeginsAnew, CatchesUp};
+ghost use Rattle.ftp_dialogue.specs.Link.{polling};
+ghost use Rattle.ftp_dialogue.specs.State.{SessionValue};
 ghost use Rattle.ftp_base.specs.declared.types.fault.FtpError.TheVariants.{DataConnectionAlreadyOpen};
 ghost use Rattle.ftp_calls.specs.declared.call.Answer.TheVariants.{Fault};
 ghost use Rattle.ftp_calls.specs.Exchanges.{negotiates};
@@ -19,6 +24,7 @@ ghost use Rattle.ftp_dialogue.specs.declared.model.PlayState.{PlayState};
 ghost use Rattle.ftp_dialogue.specs.declared.state.Owed.TheVariants.{Live};
 
 use crate::Call;
+use ftp_transport::PollConn;
 
 /// While a transfer is live no other is opened: unless the session has failed, the call fails with
 /// `DataConnectionAlreadyOpen`. Nothing is sent or consumed, the transport is asked for nothing, the data connection
@@ -46,4 +52,11 @@ pub fn a_data_connection_leads_to_the_control_peer(call: &Call)
     requires { negotiates call.now ≡ true }
     ensures to_peer { (coding : Coding) (room : Room) (s : PlayState) →
         UsesPeerHost s.state.settings → AsksPeerAlone s (play_call room coding call.now s) }
+{}
+
+/// Once the replies that were due to dropped commands have been read, nothing is kept of a reply: the call after them reads
+/// its own from its first byte, by the session's setting, whatever it is (RFC 959, section 4.2).
+pub fn replies_that_were_due_leave_nothing<W, C: PollConn<W>>()
+    ensures anew { (old new : SessionValue) → (old.state.unanswered == 0) ≡ false →
+        CatchesUp (polling C.PollConn) false old new (Ready None) → BeginsAnew new }
 {}

@@ -12,6 +12,7 @@ ghost use Rattle.ftp_dialogue.specs.Coding.{Coding, coding_of};
 ghost use Rattle.ftp_dialogue.specs.Dialogue.{Tree, after_fault_of, drain_answer, expected_of, expecting, opened_answer, wants_memory};
 ghost use Rattle.ftp_dialogue.specs.declared.state.State.{State as States};
 ghost use Rattle.ftp_dialogue.specs.Link.{asking, polling};
+ghost use Rattle.ftp_dialogue.specs.Reading.{LeavesReply};
 ghost use Rattle.ftp_dialogue.specs.Steps.Moving.{Accepts, AnswersAs, FaultLeaves, Hears, SaysNode, TakesLine, done_as, step_of};
 
 use super::answers::{features_answer, line_answer, path_answer, size_answer, time_answer};
@@ -78,6 +79,7 @@ impl<Tr: Network> Machine<Tr> {
             EndsAsTold self.old.channel.ended self.new.channel.ended self.old.channel.told }
         ensures hears { (next : Result Heard Faults → Tree) →
             Hears (asking (A.builds asker.now) A.may_wait (polling Tr.Conn.PollConn)) (expecting expected.now) next self.old self.new result }
+        ensures leaves { LeavesReply self.old self.new result }
     {
         self.hear_reply_of(asker, alloc, form_of(expected), expected, w)
     }
@@ -102,6 +104,7 @@ impl<Tr: Network> Machine<Tr> {
         ensures hears { (next : Result Heard Faults → Tree) →
             Hears (asking (A.builds _asker.now) A.may_wait (polling Tr.Conn.PollConn)) (record { form = form; statuses = expected.now })
             next self.old self.new result }
+        ensures leaves { LeavesReply self.old self.new result }
     {
         self.channel.set_rule(self.state.settings.reply_rule);
         let reply = self.channel.poll_read_reply(alloc, form, expected, w);

@@ -20,10 +20,10 @@ use Rattle.ftp_runs.specs.declared.model.Script.{Script}
 use Rattle.ftp_dialogue.specs.State.{SessionValue}
 use Rattle.ftp_dialogue.specs.declared.state.State.{State}
 use Rattle.ftp_dialogue.specs.Play.{fits}
-use Rattle.ftp_dialogue.specs.Promises.{Goes}
+use Rattle.ftp_dialogue.specs.Promises.{Goes, Keeps}
 use Rattle.ftp_runs.specs.Script.{unread, is_over, front, seen_in}
 use Rattle.ftp_runs.specs.Scripted.{SaysFrontOf}
-use Rattle.ftp_dialogue.specs.Steps.Moving.{Keeps, Shrinks}
+use Rattle.ftp_dialogue.specs.Steps.Moving.{Shrinks}
 use Rattle.ftp_dialogue.proofs.Hearing.{nothing_says}
 use Rattle.ftp_dialogue.specs.Link.{Builds, over_memory, plain}
 

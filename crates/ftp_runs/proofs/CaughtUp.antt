@@ -9,7 +9,7 @@ use Rattle.ftp_transport.specs.declared.room.Room.TheVariants.{Any}
 use Rattle.ftp_control.specs.Reading.{GoesOn}
 use Rattle.ftp_calls.specs.declared.call.Answer.{Answer}
 use Rattle.ftp_calls.specs.declared.call.Answer.TheVariants.{Unit as Nothing, Fault}
-use Rattle.ftp_dialogue.specs.CatchingUp.{After, CatchesUp, Flushes, ReadsDue, ReadsIf, TellsFault, flushing, is_caught_up, told_by}
+use Rattle.ftp_dialogue.specs.CatchingUp.{After, CatchesUp, Flushes, ReadsDue, ReadsIf, TellsFault, flushing, is_caught_up, told_by, SendsTail}
 use Rattle.ftp_dialogue.specs.Dialogue.{Tree, Leaf, expecting}
 use Rattle.ftp_dialogue.specs.Link.{Builds, Link, builds_nothing, over_memory, plain}
 use Rattle.ftp_dialogue.specs.NetEvents.{Constructed, Dropped, Handshook, Moved, Net, NetEvent, NetEvents, Parted, Requested}
@@ -105,15 +105,18 @@ flush_waits old new leads =
     let is = leads.plays tt tt Any [] new.channel.ended [] tt goes in
     sym (sym (flush_keeps old.state _) ∙ ap failed_in is ∙ flush_keeps old.state _)
 
-flush_went : (flush : Poll (Option FtpError)) (old new : SessionValue) → Flushes mem old new flush → Went old new flush
-flush_went (Ready None) old new done = record { grows = (done.answered, done.goes.net_events tt); fails = λ failed. go (done.fails failed); no_fewer = as_many old.channel.told new.channel.told (done.goes.failures tt).failures }
+tail_went : (flush : Poll (Option FtpError)) (old new : SessionValue) → SendsTail mem old new flush → Went old new flush
+tail_went (Ready None) old new done = record { grows = (done.answered, done.goes.net_events tt); fails = λ failed. go (done.fails failed); no_fewer = as_many old.channel.told new.channel.told (done.goes.failures tt).failures }
   where
     go : (old.channel.failed ≡ true) ⊎ IsFault Nothing → (old.channel.failed ≡ true) ⊎ TellsFault (Ready None)
     go (inl was) = inl was
     go (inr fault) = absurd fault
-flush_went (Ready (Some fault)) old new (inl done) = record { grows = (done.answered, done.goes.net_events tt); fails = λ failed. inr tt; no_fewer = as_many old.channel.told new.channel.told (done.goes.failures tt).failures }
-flush_went (Ready (Some fault)) old new (inr aborts) = record { grows = aborts_grows false (flushing old.state) (Fault fault) old new aborts; fails = λ failed. inr tt; no_fewer = aborts_no_fewer mem false (flushing old.state) (Fault fault) old new tt aborts }
-flush_went Pending old new waits = record { grows = (waits.0.answered, waits.0.goes.net_events tt); fails = λ failed. inl (sym (flush_waits old new waits.0) ∙ failed); no_fewer = as_many old.channel.told new.channel.told (waits.0.goes.failures tt).failures }
+tail_went (Ready (Some fault)) old new (inl done) = record { grows = (done.answered, done.goes.net_events tt); fails = λ failed. inr tt; no_fewer = as_many old.channel.told new.channel.told (done.goes.failures tt).failures }
+tail_went (Ready (Some fault)) old new (inr aborts) = record { grows = aborts_grows false (flushing old.state) (Fault fault) old new aborts; fails = λ failed. inr tt; no_fewer = aborts_no_fewer mem false (flushing old.state) (Fault fault) old new tt aborts }
+tail_went Pending old new waits = record { grows = (waits.0.answered, waits.0.goes.net_events tt); fails = λ failed. inl (sym (flush_waits old new waits.0) ∙ failed); no_fewer = as_many old.channel.told new.channel.told (waits.0.goes.failures tt).failures }
+
+flush_went : (flush : Poll (Option FtpError)) (old new : SessionValue) → Flushes mem old new flush → Went old new flush
+flush_went flush old new flushes = tail_went flush old new flushes.sends
 
 -- One reply is read
 

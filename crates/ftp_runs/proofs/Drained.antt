@@ -27,7 +27,7 @@ use Rattle.ftp_dialogue.specs.NetEvents.{NetEvent, NetEvents, outcomes_of}
 use Rattle.ftp_dialogue.specs.Dialogue.{answer_to_fault, entered, expecting, later, Expected, Tree, Hear, Leaf, concluded, dialogue, wants_memory, with_drained}
 use Rattle.ftp_dialogue.specs.Link.{Builds, over_memory, plain}
 use Rattle.ftp_dialogue.specs.Play.{Taken, finally, heard_then, is_due, is_unit, play, taken}
-use Rattle.ftp_dialogue.specs.Promises.{FailsWith, HasFault, IsFault, begun_by, due_of, refusal_of, play_state}
+use Rattle.ftp_dialogue.specs.Promises.{FailsWith, HasFault, IsFault, begun_by, due_of, refusal_of, play_state, Keeps}
 use Rattle.ftp_dialogue.specs.Resuming.{Resumes, Silent, modes_of}
 use Rattle.ftp_runs.specs.Script.{is_over, start_of, unread, draining, drained_as, drained_to, last_of, poll_if, poll_next, poll_script, polled_as, run_with, succeeded, without_call, MayPoll, MayPollIf, MayPollNext}
 use Rattle.ftp_runs.specs.Scripted.{AreRefused, IsDrained, IsPolledIf, IsPolled}
@@ -48,7 +48,7 @@ use Rattle.ftp_dialogue.specs.declared.state.Owed.TheVariants as owed
 use Rattle.ftp_dialogue.specs.declared.state.State.{State}
 use Rattle.ftp_runs.specs.Following.{AbortsAt, AbortsCall, DrainsHere, Follows, Place, PollsHere, PollsNext, PollsNextIf, Started, ThenPolls, ThenPollsIf}
 use Rattle.ftp_dialogue.specs.Steps.Polls.{polled_answer}
-use Rattle.ftp_dialogue.specs.Steps.Moving.{Keeps, PollsTo}
+use Rattle.ftp_dialogue.specs.Steps.Moving.{PollsTo}
 use Rattle.ftp_dialogue.specs.Steps.Stages.{remaining}
 use Rattle.ftp_runs.proofs.Carried.{outcomes_on}
 use Rattle.ftp_dialogue.proofs.NetEvents.{net_events-append}

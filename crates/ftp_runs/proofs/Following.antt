@@ -68,12 +68,12 @@ use Rattle.ftp_dialogue.specs.declared.model.Played.{Played}
 use Rattle.ftp_dialogue.specs.Lenient.{SameForm, SaysNothingYet, first_form, heard_form}
 use Rattle.ftp_dialogue.specs.Resuming.{Modes, Resumes, Silent, modes_in, modes_of}
 use Rattle.ftp_runs.specs.Run.{replay, before, and_then}
-use Rattle.ftp_dialogue.specs.Promises.{due_of, lacks_of, refusal_of, begun_by, failed_from, lacking_at, play_state, However, Fails, LacksMemory, Touched, Untouched, Goes, Leads, Rests, Aborts}
+use Rattle.ftp_dialogue.specs.Promises.{due_of, lacks_of, refusal_of, begun_by, failed_from, lacking_at, play_state, However, Fails, LacksMemory, Touched, Untouched, Goes, Leads, Rests, Aborts, Keeps, Calm}
 use Rattle.ftp_runs.specs.Runs.{before_all}
 use Rattle.ftp_runs.specs.Script.{unread, is_over, start_of, front, kept_in, modes_at, rule_at, seen_at, form_at, polled_as, run_with, poll_script, HearsNothing, MayCancel, MayPoll, SameMode}
 use Rattle.ftp_runs.specs.Scripted.{MayGoOn, SaysFrontOf, SaysNothing, Stands, SaysOrTakes, CallHasBegun, Reaches, LeftOf, entering}
 use Rattle.ftp_dialogue.specs.Steps.Stages.{StageOf, remaining, begun_at}
-use Rattle.ftp_dialogue.specs.Steps.Moving.{Apart, BeginsHere, HasBegun, HasGoneOut, NothingTouched, Speaks, StillSays, Keeps, Shrinks, Calm, Advances, PollsTo, WaitsFor, WaitsToSay}
+use Rattle.ftp_dialogue.specs.Steps.Moving.{Apart, BeginsHere, HasBegun, HasGoneOut, NothingTouched, Speaks, StillSays, Shrinks, Advances, PollsTo, WaitsFor, WaitsToSay}
 use Rattle.ftp_runs.specs.Following.{Since, Started, UnderWay, Unheard, Place, Follows, PollsHere, AbortsCall}
 use Rattle.ftp_dialogue.specs.Steps.Polls.{MayPollAt, MayPollFrom, is_first, entered_at, entered_state, entered_tree}
 use Rattle.ftp_dialogue.proofs.NetEvents.{net_events-append, drops, outcomes-append, letting_net_events}
@@ -540,7 +540,7 @@ module _ (builds : Builds) (coding : Coding) (outcomes : List NetOutcome) where
         let C : Tree → Type 0 = Calm in
         let t : PlayState = record (here left asked old s v w call stage answers f moves.leads.came c) { said = w.channel.told.sent ++ w.channel.unsent ++ says.line; unsent = [] } in
         let stuck = say_waits left asked old s v w call stage answers f moves.leads.came c says.line says.next says.some (says.full tt) in
-        let calm = moves.calm (subst C (sym says.is) tt) in
+        let calm = moves.leads.calm (subst C (sym says.is) tt) in
         let seen = seen_kept (Calm before) s v w moves.leads.came f.seen f.untaken c.split moves.shrinks calm in
         let says_nothing = waits_kept (Calm before) s v w moves.leads.came f.waits calm in
         let by = rule_kept (Calm before) s.rule v w moves.leads.came f.rule calm in
@@ -615,7 +615,7 @@ module _ (builds : Builds) (coding : Coding) (outcomes : List NetOutcome) where
         reaches' = reaches_on old e w s.items f.came f.answered s.answers call before tree' from.reaches advances.moves.leads (advances.moves.leads.plays tt from.resumes)
 
         resumes' : Resumes (modes_of w) w.channel.kept tree'
-        resumes' = advances.moves.resumes from.resumes
+        resumes' = advances.moves.leads.resumes from.resumes
 
         read' : is_read call ≡ true → Stands coding old s.items came' asked' w s.answers
         read' is =

@@ -22,7 +22,7 @@ use Rattle.ftp_base.specs.declared.types.fault.FtpError.{FtpError}
 use Rattle.ftp_dialogue.specs.CatchingUp.{CatchesUp, InStepIf, MakesThen, PlaysInStep, is_behind, is_plain_read, opens_beside}
 use Rattle.ftp_dialogue.proofs.CatchingUpLemmas.{plays_in_step}
 use Rattle.ftp_session.proofs.Grounds.{up_caught}
-use Rattle.ftp_runs.proofs.Running.{Reached, RunsSoFar, before_all-Finished, next_answer, run-nil}
+use Rattle.ftp_runs.proofs.Running.{RunsSoFar, before_all-Finished, next_answer, run-nil}
 
 all_snoc : (calls : List Call) (first : List Answer) (call : Call) (answer : Answer) → AllRefused calls first → (is_local call ≡ false → IsRefusal answer) → AllRefused (calls ++ call ∷ []) (first ++ answer ∷ [])
 all_snoc [] first call answer none is =
@@ -128,13 +128,13 @@ caught_more link coding calls to_make call old mid new answers answer caught pla
 }
 
 -- no call is left
-ran_all : (link : Link) (coding : Coding) (calls : List Call) (old new : SessionValue) (answers : List Answer) → Reached link coding calls [] old new answers → RunsTo link coding calls old new answers
+ran_all : (link : Link) (coding : Coding) (calls : List Call) (old new : SessionValue) (answers : List Answer) → RanTo link coding calls [] old new answers → RunsTo link coding calls old new answers
 ran_all link coding calls old new answers reached = record {
-  came = reached.ran.came;
-  answered = reached.ran.answered;
-  goes = reached.ran.goes;
+  came = reached.came;
+  answered = reached.answered;
+  goes = reached.goes;
   runs = λ h agrees room more ended outcomes fit on.
-      reached.ran.runs h agrees room more ended outcomes fit on
+      reached.runs h agrees room more ended outcomes fit on
       ∙ ap (before_all answers) (run-nil coding room (play_state new more ended outcomes))
       ∙ before_all-Finished answers [] (play_state new more ended outcomes)
       ∙ ap (λ a. Finished a (play_state new more ended outcomes)) (append-nil answers);
@@ -179,11 +179,11 @@ next_of link coding calls i call old mid new answers answers' answer inside is p
     rest : List Call
     rest = drop (i + 1) calls
 
-    behind_next : (due : Bool) → are_due old ≡ due → (b : Bool) → is_behind call mid ≡ b → Reached link coding calls (call ∷ rest) old mid answers → PlaysInStep link coding call mid new answer → InStepIf b (unasked link) (is_plain_read call) (drains call) (MadeDrained link coding call) mid new answer → due ≡ true → RunsSoFar link coding calls rest old new (answers ++ answer ∷ [])
+    behind_next : (due : Bool) → are_due old ≡ due → (b : Bool) → is_behind call mid ≡ b → RanTo link coding calls (call ∷ rest) old mid answers → PlaysInStep link coding call mid new answer → InStepIf b (unasked link) (is_plain_read call) (drains call) (MadeDrained link coding call) mid new answer → due ≡ true → RunsSoFar link coding calls rest old new (answers ++ answer ∷ [])
     behind_next due is_due false none reached plays more late = next_answer link coding calls rest call old mid answers reached new answer more
-    behind_next due is_due true behind reached plays first late = inr (inr (catches_up link coding calls rest call old mid new answers answer (is_due ∙ late) reached.ran behind plays))
+    behind_next due is_due true behind reached plays first late = inr (inr (catches_up link coding calls rest call old mid new answers answer (is_due ∙ late) reached behind plays))
 
-    reached_next : (due : Bool) → are_due old ≡ due → Reached link coding calls (call ∷ rest) old mid answers → MadeAmong due link coding call mid new answer → RunsSoFar link coding calls rest old new (answers ++ answer ∷ [])
+    reached_next : (due : Bool) → are_due old ≡ due → RanTo link coding calls (call ∷ rest) old mid answers → MadeAmong due link coding call mid new answer → RunsSoFar link coding calls rest old new (answers ++ answer ∷ [])
     reached_next true is_due reached step = behind_next true is_due (is_behind call mid) refl reached (plays_in_step link coding call mid new answer step) step refl
     reached_next false is_due reached drained = next_answer link coding calls rest call old mid answers reached new answer drained
 

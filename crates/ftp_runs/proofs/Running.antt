@@ -23,9 +23,9 @@ use Rattle.ftp_dialogue.specs.Play.{Taken, after_drain, is_unit, play_call, play
 use Rattle.ftp_dialogue.proofs.CarryingLemmas.{beside_goes, refused_so, taken_goes_on, taken_plays, taken_resumes}
 use Rattle.ftp_dialogue.specs.Resuming.{Resumes, Silent, modes_in, modes_of}
 use Rattle.ftp_runs.specs.Run.{run, before, and_then, MayBeSilent, OneView, ResumesDrain}
-use Rattle.ftp_dialogue.specs.Promises.{begun_by, DrainsFirst, DrainsIf, However, MakesAfter, Goes, FailsWith, HasFault, play_state, Completes, Aborts, IsRefused, IsPlayed, due_of, refusal_of}
+use Rattle.ftp_dialogue.specs.Promises.{begun_by, DrainsFirst, DrainsIf, However, MakesAfter, Goes, FailsWith, HasFault, play_state, Completes, Aborts, IsRefused, IsPlayed, due_of, refusal_of, Keeps}
 use Rattle.ftp_runs.specs.Runs.{BeginsAfter, before_all, Agrees, RanTo, RunAborts, RunCatchesUp}
-use Rattle.ftp_dialogue.specs.Steps.Moving.{Keeps, Ends, IsMade, Made, MadeDrained}
+use Rattle.ftp_dialogue.specs.Steps.Moving.{Ends, IsMade, Made, MadeDrained}
 use Rattle.ftp_dialogue.proofs.Hearing.{begun_resumes, nothing_resumes}
 use Rattle.ftp_dialogue.proofs.DrainingLemmas.{Due, due_so, due_taken, goes_from, taken_unrefused, unit_is}
 use Rattle.ftp_dialogue.proofs.Moving.{Finishes, finishes, nothing_goes, joined_goes, goes_after, fitted}
@@ -103,28 +103,22 @@ module _ (coding : Coding) where
   views_on call later came mid new (inl none) view = rw none (nothing_views new.channel.rule later new.state)
   views_on call later came mid new (inr same) view = rw (same.0, same.4) (view.1 new.state (inl same.3))
 
--- a run that got so far, with the view of the calls that are left
-pub record Reached (link : Link) (coding : Coding) (calls to_make : List Call) (old new : SessionValue) (answers : List Answer) : Type 0 where
-  pub ran : RanTo link coding calls to_make old new answers
-  pub agrees : Agrees coding old calls → Agrees coding new to_make
-
-pub ran_nothing : (link : Link) (coding : Coding) (calls : List Call) (v : SessionValue) → Reached link coding calls calls v v []
+-- nothing was made yet
+pub ran_nothing : (link : Link) (coding : Coding) (calls : List Call) (v : SessionValue) → RanTo link coding calls calls v v []
 ran_nothing link coding calls v = record {
-  ran = record {
-    done = [];
-    split = refl;
-    count = refl;
-    came = [];
-    answered = [];
-    goes = nothing_goes link v;
-    runs = λ h agrees room more ended outcomes fit on. refl;
-  };
+  done = [];
+  split = refl;
+  count = refl;
+  came = [];
+  answered = [];
+  goes = nothing_goes link v;
+  runs = λ h agrees room more ended outcomes fit on. refl;
   agrees = λ a. a;
 }
 
 -- a run so far, where these are left to make
 abbrev pub RunsSoFar : Link → Coding → List Call → List Call → SessionValue → SessionValue → List Answer → Type 0
-RunsSoFar link coding calls to_make old new answers = Reached link coding calls to_make old new answers ⊎ RunAborts link coding calls to_make old new answers ⊎ RunCatchesUp link coding calls to_make old new answers
+RunsSoFar link coding calls to_make old new answers = RanTo link coding calls to_make old new answers ⊎ RunAborts link coding calls to_make old new answers ⊎ RunCatchesUp link coding calls to_make old new answers
 
 -- one call more is done
 split_more : (calls later : List Call) (call : Call) (done : List Call) → calls ≡ done ++ call ∷ later → calls ≡ (done ++ call ∷ []) ++ later
@@ -144,11 +138,10 @@ pub record ReachedCall (link : Link) (coding : Coding) (calls : List Call) (call
   pub runs : link.tells → Agrees coding old calls → However old came answered new (λ room s t. run room coding calls s ≡ before_all answers (and_then (play_call room coding call t) (λ u. run room coding later u)))
   pub agrees : Agrees coding old calls → new.channel.failed ≡ false → SeesCall coding call later new
 
-module _ (link : Link) (coding : Coding) (calls later : List Call) (call : Call) (old mid : SessionValue) (answers : List Answer) (reached : Reached link coding calls (call ∷ later) old mid answers) where
+module _ (link : Link) (coding : Coding) (calls later : List Call) (call : Call) (old mid : SessionValue) (answers : List Answer) (ran : RanTo link coding calls (call ∷ later) old mid answers) where
   -- where no drain is due the call comes next
   comes_next : due_of call mid ≡ false → ReachedCall link coding calls call later old mid answers
   comes_next none =
-      let ran = reached.ran in
       record {
         done = ran.done;
         split = ran.split;
@@ -161,7 +154,7 @@ module _ (link : Link) (coding : Coding) (calls later : List Call) (call : Call)
             let next : PlayState → Ran = λ u. run room coding later u in
             ran.runs h agrees room more ended outcomes fit on
             ∙ ap (before_all answers) (run-cons coding room call later s ∙ ap (λ b. and_then (play_drained_if b room coding call s) next) none);
-        agrees = λ agrees going. let sees = reached.agrees agrees going in (sees.1, sees.2);
+        agrees = λ agrees going. let sees = ran.agrees agrees going in (sees.1, sees.2);
       }
 
   module _ (new : SessionValue) (first : Answer) (due : due_of call mid ≡ true) (drains : Finishes link (dialogue coding Drain mid.state) first (begun_by Drain mid) new) where
@@ -174,15 +167,14 @@ module _ (link : Link) (coding : Coding) (calls later : List Call) (call : Call)
     resumes : Agrees coding old calls → Resumes (modes_of mid) mid.channel.kept (dialogue coding Drain mid.state)
     resumes agrees =
         let P : Bool → Type 0 = λ b. ResumesDrain b (modes_of mid) mid.channel.kept coding mid.state in
-        subst P so.first (reached.agrees agrees so.going).0
+        subst P so.first (ran.agrees agrees so.going).0
 
-    goes : Goes link (reached.ran.came ++ drains.came) (reached.ran.answered ++ drains.answered) old new
-    goes = joined_goes link reached.ran.came drains.came reached.ran.answered drains.answered old mid new reached.ran.goes (goes_from link drains.came drains.answered Drain mid new drains.goes)
+    goes : Goes link (ran.came ++ drains.came) (ran.answered ++ drains.answered) old new
+    goes = joined_goes link ran.came drains.came ran.answered drains.answered old mid new ran.goes (goes_from link drains.came drains.answered Drain mid new drains.goes)
 
     -- the run results in what the drain leads to
-    comes_to : link.tells → Agrees coding old calls → However old (reached.ran.came ++ drains.came) (reached.ran.answered ++ drains.answered) new (λ room s t. run room coding calls s ≡ before_all answers (and_then (after_drain (Done first t) (λ u. play_call room coding call u)) (λ u. run room coding later u)))
+    comes_to : link.tells → Agrees coding old calls → However old (ran.came ++ drains.came) (ran.answered ++ drains.answered) new (λ room s t. run room coding calls s ≡ before_all answers (and_then (after_drain (Done first t) (λ u. play_call room coding call u)) (λ u. run room coding later u)))
     comes_to h agrees room more ended outcomes fit on =
-        let ran = reached.ran in
         let next : PlayState → Ran = λ u. run room coding later u in
         let then : PlayState → Played = λ u. play_call room coding call u in
         let s : PlayState = play_state mid (drains.came ++ more) ended (outcomes_of drains.answered ++ outcomes) in
@@ -206,7 +198,6 @@ module _ (link : Link) (coding : Coding) (calls later : List Call) (call : Call)
     -- the drain is done, and the call goes on
     goes_on_next : is_unit first ≡ true → ReachedCall link coding calls call later old new answers
     goes_on_next unit =
-        let ran = reached.ran in
         record {
           done = ran.done;
           split = ran.split;
@@ -225,22 +216,19 @@ module _ (link : Link) (coding : Coding) (calls later : List Call) (call : Call)
         if_unit b room t = cond b (play_call room coding call t) (Done first t)
 
     -- the drain fails, and that is the call's answer
-    fails_next : is_unit first ≡ false → Reached link coding calls later old new (answers ++ first ∷ [])
+    fails_next : is_unit first ≡ false → RanTo link coding calls later old new (answers ++ first ∷ [])
     fails_next fault =
-        let ran = reached.ran in
         record {
-          ran = record {
-            done = ran.done ++ call ∷ [];
-            split = split_more calls later call ran.done ran.split;
-            count = counts_more call answers ran.done first ran.count;
-            came = ran.came ++ drains.came;
-            answered = ran.answered ++ drains.answered;
-            goes = goes;
-            runs = λ h agrees room more ended outcomes fit on.
-                let next : PlayState → Ran = λ u. run room coding later u in
-                let t : PlayState = play_state new more ended outcomes in
-                comes_to h agrees room more ended outcomes fit on ∙ ap (λ b. before_all answers (and_then (if_unit b room t) next)) fault ∙ sym (before_all-snoc answers first (next t));
-          };
+          done = ran.done ++ call ∷ [];
+          split = split_more calls later call ran.done ran.split;
+          count = counts_more call answers ran.done first ran.count;
+          came = ran.came ++ drains.came;
+          answered = ran.answered ++ drains.answered;
+          goes = goes;
+          runs = λ h agrees room more ended outcomes fit on.
+              let next : PlayState → Ran = λ u. run room coding later u in
+              let t : PlayState = play_state new more ended outcomes in
+              comes_to h agrees room more ended outcomes fit on ∙ ap (λ b. before_all answers (and_then (if_unit b room t) next)) fault ∙ sym (before_all-snoc answers first (next t));
           agrees = λ agrees going. rw nothing_kept (nothing_views coding new.channel.rule later new.state);
         }
       where
@@ -249,53 +237,49 @@ module _ (link : Link) (coding : Coding) (calls later : List Call) (call : Call)
 
 module _ (link : Link) (coding : Coding) (calls later : List Call) (call : Call) (old mid new : SessionValue) (answers : List Answer) (answer : Answer) (reached : ReachedCall link coding calls call later old mid answers) where
   -- the next call is done
-  completes_next : refusal_of call mid ≡ Taken → (is_local call ≡ true → new.channel ≡ mid.channel) → Finishes link (dialogue coding call mid.state) answer (begun_by call mid) new → Reached link coding calls later old new (answers ++ answer ∷ [])
+  completes_next : refusal_of call mid ≡ Taken → (is_local call ≡ true → new.channel ≡ mid.channel) → Finishes link (dialogue coding call mid.state) answer (begun_by call mid) new → RanTo link coding calls later old new (answers ++ answer ∷ [])
   completes_next taken apart done =
       record {
-        ran = record {
-          done = reached.done ++ call ∷ [];
-          split = split_more calls later call reached.done reached.split;
-          count = counts_more call answers reached.done answer reached.count;
-          came = reached.came ++ done.came;
-          answered = reached.answered ++ done.answered;
-          goes = joined_goes link reached.came done.came reached.answered done.answered old mid new reached.goes (goes_from link done.came done.answered call mid new done.goes);
-          runs = λ h agrees room more ended outcomes fit on.
-              let next : PlayState → Ran = λ u. run room coding later u in
-              let resumes = begun_resumes call mid (dialogue coding call mid.state) (taken_resumes (modes_of mid) mid.channel.kept coding call mid taken (λ going. (reached.agrees agrees going).0)) in
-              let first = reached.runs h agrees room (done.came ++ more) ended (outcomes_of done.answered ++ outcomes) (fitted room _ _ (done.goes.sent h) fit) (goes_after mid.channel.ended done.came more new.channel.ended ended done.goes.over on) in
-              let played = done.plays h resumes room more ended outcomes fit on in
-              rw (append_assoc reached.came done.came more, outcomes-append reached.answered done.answered, append_assoc (outcomes_of reached.answered) (outcomes_of done.answered) outcomes)
-              (first
-              ∙ ap (λ p. before_all answers (and_then p next)) (taken_plays coding room call mid (done.came ++ more) ended (outcomes_of done.answered ++ outcomes) taken ∙ played)
-              ∙ sym (before_all-snoc answers answer (run room coding later (play_state new more ended outcomes))));
-        };
+        done = reached.done ++ call ∷ [];
+        split = split_more calls later call reached.done reached.split;
+        count = counts_more call answers reached.done answer reached.count;
+        came = reached.came ++ done.came;
+        answered = reached.answered ++ done.answered;
+        goes = joined_goes link reached.came done.came reached.answered done.answered old mid new reached.goes (goes_from link done.came done.answered call mid new done.goes);
+        runs = λ h agrees room more ended outcomes fit on.
+            let next : PlayState → Ran = λ u. run room coding later u in
+            let resumes = begun_resumes call mid (dialogue coding call mid.state) (taken_resumes (modes_of mid) mid.channel.kept coding call mid taken (λ going. (reached.agrees agrees going).0)) in
+            let first = reached.runs h agrees room (done.came ++ more) ended (outcomes_of done.answered ++ outcomes) (fitted room _ _ (done.goes.sent h) fit) (goes_after mid.channel.ended done.came more new.channel.ended ended done.goes.over on) in
+            let played = done.plays h resumes room more ended outcomes fit on in
+            rw (append_assoc reached.came done.came more, outcomes-append reached.answered done.answered, append_assoc (outcomes_of reached.answered) (outcomes_of done.answered) outcomes)
+            (first
+            ∙ ap (λ p. before_all answers (and_then p next)) (taken_plays coding room call mid (done.came ++ more) ended (outcomes_of done.answered ++ outcomes) taken ∙ played)
+            ∙ sym (before_all-snoc answers answer (run room coding later (play_state new more ended outcomes))));
         agrees = λ agrees going'. views_on coding call later done.came mid new (keeps_from (Silent (entered call mid.state) new.state (dialogue coding call mid.state)) done.came call mid new done.keeps) (reached.agrees agrees (taken_goes_on call mid new taken apart going'));
       }
 
   -- it is refused
-  refuses_next : IsRefused link.tells call mid new answer → Reached link coding calls later old new (answers ++ answer ∷ [])
+  refuses_next : IsRefused link.tells call mid new answer → RanTo link coding calls later old new (answers ++ answer ∷ [])
   refuses_next refused =
       let so = refused_so link.beside link.tells coding call mid new answer refused in
       let goes = beside_goes link so.answered mid new so.channel so.net_events in
       record {
-        ran = record {
-          done = reached.done ++ call ∷ [];
-          split = split_more calls later call reached.done reached.split;
-          count = counts_more call answers reached.done answer reached.count;
-          came = reached.came ++ [];
-          answered = reached.answered ++ so.answered;
-          goes = joined_goes link reached.came [] reached.answered so.answered old mid new reached.goes goes;
-          runs = λ h agrees room more ended outcomes fit on.
-              let next : PlayState → Ran = λ u. run room coding later u in
-              let O : List NetOutcome → Ran = λ o. run room coding calls (play_state old (reached.came ++ more) ended o) in
-              let same : outcomes_of (reached.answered ++ so.answered) ++ outcomes ≡ outcomes_of reached.answered ++ outcomes = ap (λ o. o ++ outcomes) (outcomes-append reached.answered so.answered ∙ ap (λ o. outcomes_of reached.answered ++ o) so.none ∙ append-nil (outcomes_of reached.answered)) in
-              let first = reached.runs h agrees room more ended outcomes (fitted room _ _ (goes.sent h) fit) (goes_after mid.channel.ended [] more new.channel.ended ended goes.over on) in
-              rw (append-nil reached.came)
-              (ap O same
-              ∙ first
-              ∙ ap (λ p. before_all answers (and_then p next)) (so.plays h room more ended outcomes)
-              ∙ sym (before_all-snoc answers answer (run room coding later (play_state new more ended outcomes))));
-        };
+        done = reached.done ++ call ∷ [];
+        split = split_more calls later call reached.done reached.split;
+        count = counts_more call answers reached.done answer reached.count;
+        came = reached.came ++ [];
+        answered = reached.answered ++ so.answered;
+        goes = joined_goes link reached.came [] reached.answered so.answered old mid new reached.goes goes;
+        runs = λ h agrees room more ended outcomes fit on.
+            let next : PlayState → Ran = λ u. run room coding later u in
+            let O : List NetOutcome → Ran = λ o. run room coding calls (play_state old (reached.came ++ more) ended o) in
+            let same : outcomes_of (reached.answered ++ so.answered) ++ outcomes ≡ outcomes_of reached.answered ++ outcomes = ap (λ o. o ++ outcomes) (outcomes-append reached.answered so.answered ∙ ap (λ o. outcomes_of reached.answered ++ o) so.none ∙ append-nil (outcomes_of reached.answered)) in
+            let first = reached.runs h agrees room more ended outcomes (fitted room _ _ (goes.sent h) fit) (goes_after mid.channel.ended [] more new.channel.ended ended goes.over on) in
+            rw (append-nil reached.came)
+            (ap O same
+            ∙ first
+            ∙ ap (λ p. before_all answers (and_then p next)) (so.plays h room more ended outcomes)
+            ∙ sym (before_all-snoc answers answer (run room coding later (play_state new more ended outcomes))));
         agrees = λ agrees going.
             let on = so.goes_on going in
             let V : SessionValue → Type 0 = λ v. v.channel.failed ≡ false in
@@ -326,7 +310,7 @@ aborts_next link coding calls later call part old before mid last new answers an
   failed = λ failed. (refl, refl);
 }
 
-module _ (link : Link) (coding : Coding) (calls later : List Call) (call : Call) (old mid : SessionValue) (answers : List Answer) (reached : Reached link coding calls (call ∷ later) old mid answers) where
+module _ (link : Link) (coding : Coding) (calls later : List Call) (call : Call) (old mid : SessionValue) (answers : List Answer) (reached : RanTo link coding calls (call ∷ later) old mid answers) where
   -- what is made of a call by itself, where the run got to it
   call_answer : (start new : SessionValue) (answer : Answer) → ReachedCall link coding calls call later old start answers → BeginsAfter (due_of call mid) link coding call call mid start → Made link coding call start new answer → RunsSoFar link coding calls later old new (answers ++ answer ∷ [])
   call_answer start new answer there begins (inl refused) = inl (refuses_next link coding calls later call old start new answers answer there refused)
@@ -334,7 +318,7 @@ module _ (link : Link) (coding : Coding) (calls later : List Call) (call : Call)
     where
       go : Ends link (dialogue coding call start.state) answer (begun_by call start) made.last ⊎ Aborts link false (dialogue coding call start.state) answer (begun_by call start) made.last → RunsSoFar link coding calls later old new (answers ++ answer ∷ [])
       go (inl ends) = inl (completes_next link coding calls later call old start new answers answer there made.going made.apart (finishes link (dialogue coding call start.state) answer (begun_by call start) made.last new made.lets_go ends))
-      go (inr aborts) = inr (inl (aborts_next link coding calls later call call old mid start made.last new answers answer reached.ran begins made.lets_go made.going aborts))
+      go (inr aborts) = inr (inl (aborts_next link coding calls later call call old mid start made.last new answers answer reached begins made.lets_go made.going aborts))
 
   -- the drain comes before it
   drain_answer : (due : due_of call mid ≡ true) (new : SessionValue) (answer : Answer) → DrainsFirst (Made link coding) call mid new answer → RunsSoFar link coding calls later old new (answers ++ answer ∷ [])
@@ -365,7 +349,7 @@ module _ (link : Link) (coding : Coding) (calls later : List Call) (call : Call)
           let P : SessionValue → Type 0 = λ v. A v answer in
           let Q : Answer → Type 0 = λ a. A drains.middle a in
           let B : Bool → Type 0 = λ b. BeginsAfter b link coding call Drain mid mid in
-          subst P (sym ends.1) (subst Q (sym ends.0) (inr (inl (aborts_next link coding calls later call Drain old mid mid last drains.middle answers drains.first reached.ran (subst B (sym due) (inl (refl, refl))) lets_go (due_taken call mid due) aborts))))
+          subst P (sym ends.1) (subst Q (sym ends.0) (inr (inl (aborts_next link coding calls later call Drain old mid mid last drains.middle answers drains.first reached (subst B (sym due) (inl (refl, refl))) lets_go (due_taken call mid due) aborts))))
 
       played : IsMade link coding Drain mid drains.middle drains.first → IsPlayed link coding Drain mid drains.middle drains.first
       played made = record { going = made.going; apart = made.apart; last = made.last; plays = ended made.plays; lets_go = made.lets_go }

@@ -29,8 +29,8 @@ abbrev pub before_all : List Answer → Ran → Ran
 before_all [] ran = ran
 before_all (answer ∷ answers) ran = before answer (before_all answers ran)
 
--- a run that got so far: these calls of it are done with these answers, and it leads to what is left of it
--- from here
+-- a run that got so far: these calls of it are done with these answers, and it leads to what is left of it from here, where
+-- what is kept of a reply agrees with the calls that are left, if it agreed with all of them at the beginning
 pub record RanTo (link : Link) (coding : Coding) (calls to_make : List Call) (old new : SessionValue) (answers : List Answer) : Type 0 where
   pub done : List Call
   pub split : calls ≡ done ++ to_make
@@ -39,6 +39,7 @@ pub record RanTo (link : Link) (coding : Coding) (calls to_make : List Call) (ol
   pub answered : List NetEvent
   pub goes : Goes link came answered old new
   pub runs : link.tells → Agrees coding old calls → However old came answered new (λ room s t. run room coding calls s ≡ before_all answers (run room coding to_make t))
+  pub agrees : Agrees coding old calls → Agrees coding new to_make
 
 -- a run that came to its end: these are the answers, and here it stands, whatever else the server sends
 pub record RunsTo (link : Link) (coding : Coding) (calls : List Call) (old new : SessionValue) (answers : List Answer) : Type 0 where

@@ -204,8 +204,8 @@ no_fault (inl is) = is
 no_fault (inr none) = absurd none
 
 flush_caught : (link : Link) (old new : SessionValue) (fault : Option FtpError) → Flushes link old new (Ready fault) → Caught link old new fault
-flush_caught link old new None flushes = record { none = flushes.goes.failures; going = λ f. no_fault (flushes.fails f); happens = record { answered = flushes.answered; net_events = flushes.goes.net_events } }
-flush_caught link old new (Some fault) flushes = made_grounds link ⊥ Never (flushing old.state) (Fault fault) old new (λ other same grave. cc same) false flushes
+flush_caught link old new None flushes = record { none = flushes.sends.goes.failures; going = λ f. no_fault (flushes.sends.fails f); happens = record { answered = flushes.sends.answered; net_events = flushes.sends.goes.net_events } }
+flush_caught link old new (Some fault) flushes = made_grounds link ⊥ Never (flushing old.state) (Fault fault) old new (λ other same grave. cc same) false flushes.sends
 
 -- what a read that is made by itself gives
 abbrev pub given : State → Result Response FtpError → Tree

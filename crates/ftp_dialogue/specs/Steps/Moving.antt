@@ -58,28 +58,13 @@ use Rattle.ftp_calls.specs.Exchanges.{is_draining, is_local, is_read, row_of, Ki
 use Rattle.ftp_dialogue.specs.Dialogue.{Expected, End, Tree, Say, Hear, Look, Ask, Build, Secure, Move, Leaf, accepted, chunk, fetched, first_fault, later, lets_in, moved_answer, performing, too_long, unfetched, wants_memory, with_abandoned, with_fetched, set_to, answer_to_fault, after_fault_of, with_left, with_transfer, dialogue}
 use Rattle.ftp_base.specs.Ascii.{most_bytes}
 use Rattle.ftp_dialogue.specs.Resuming.{Modes, Resumes, Silent, modes_of}
-use Rattle.ftp_dialogue.specs.Promises.{DrainsIf, due_of, AbortsRead, IsFault, Leads, Completes, Aborts, However, SaidOrTaken, Untouched, Rests, IsRefused, begun_by, failed_from, refusal_of, IsApart}
+use Rattle.ftp_dialogue.specs.Promises.{DrainsIf, due_of, AbortsRead, IsFault, Keeps, Leads, Completes, Aborts, However, SaidOrTaken, Untouched, Rests, IsRefused, begun_by, failed_from, refusal_of, IsApart}
 use Rattle.ftp_dialogue.specs.Steps.Stages.{AnswersKind, Begun, GoesOnTo, NotBegun, StageAfter, StepAnswers, asking_of, nodes_left, remaining, begun_at, is_later}
 use Rattle.ftp_dialogue.specs.Link.{Link}
-
--- what is kept afterwards: nothing, as after a reply; or what was, by its rule, where none was read
-abbrev pub Keeps : Type 0 → List ℕ → SessionValue → SessionValue → Type 0
-Keeps untouched came old new = (new.channel.kept ≡ []) ⊎ ((new.channel.kept ≡ old.channel.kept) × (new.channel.ahead ≡ old.channel.ahead) × (came ≡ []) × untouched × (new.channel.rule ≡ old.channel.rule))
 
 -- no more lies ahead than lay there and came
 abbrev pub Shrinks : List ℕ → SessionValue → SessionValue → Type 0
 Shrinks came old new = length new.channel.ahead ≤ length old.channel.ahead + length came
-
--- the first node hears nothing
-abbrev pub Calm : Tree → Type 0
-Calm (Say line next) = Unit {0}
-Calm (Hear codes next) = ⊥
-Calm (Look end next) = Unit {0}
-Calm (Ask request next) = Unit {0}
-Calm (Build address next) = Unit {0}
-Calm (Secure next) = Unit {0}
-Calm (Move movement next) = Unit {0}
-Calm (Leaf answer state) = Unit {0}
 
 -- the tree asks nothing of the transport, and does nothing on the data connection
 abbrev pub Apart : Tree → Type 0
@@ -127,9 +112,7 @@ SaysFirst link tree tree' came answered old new =
 pub record Moves (link : Link) (tree tree' : Tree) (old new : SessionValue) : Type 0 where
   pub leads : Leads link tree tree' old new
   pub state : new.state ≡ old.state
-  pub resumes : Resumes (modes_of old) old.channel.kept tree → Resumes (modes_of new) new.channel.kept tree'
   pub keeps : (from to : State) → Silent from to tree' → Keeps (Silent from to tree) leads.came old new
-  pub calm : Calm tree' → Keeps (Calm tree) leads.came old new
   pub shrinks : Shrinks leads.came old new
   pub says : SaysFirst link tree tree' leads.came leads.answered old new
   pub apart : Apart tree → (outcomes_of leads.answered ≡ []) × Apart tree'
@@ -144,7 +127,6 @@ pub record Ends (link : Link) (tree : Tree) (answer : Answer) (old new : Session
   pub completes : Completes link tree answer old new
   pub fails : new.channel.failed ≡ true → (old.channel.failed ≡ true) ⊎ IsFault answer
   pub keeps : Keeps (Silent old.state new.state tree) completes.came old new
-  pub calm : Keeps (Calm tree) completes.came old new
   pub shrinks : Shrinks completes.came old new
   pub gone : (line : List ℕ) (next : Tree) → tree ≡ Say (Ok line) next → link.tells → HasGoneOut line old new
 
