@@ -23,13 +23,13 @@ use Rattle.ftp_dialogue.specs.State.{SessionValue}
 use Rattle.ftp_transfer.specs.Copying.{Copies, GaveUp, Hinders, Wrote, WroteFront}
 use Rattle.ftp_session.specs.Calls.{sends}
 use Rattle.ftp_session.specs.Counting.{CopyStops, CountsDownload, CountsSaving, CountsUpload, CountsWhole, GivesOn, OnOpened, SaveStops}
-use Rattle.ftp_session.specs.Files.{EndsUpload, FinishesWhole, OpensAndReads, OpensAndStores, Puts, PutsFrom, Retrieves, RetrievesFrom, failed_if, first_of, lacks_memory, unless_failed, OpensAndReceives, WritesFrom, WritesTo}
+use Rattle.ftp_session.specs.Files.{EndsDownload, EndsUpload, FinishesHeld, OpensAndReceives, OpensAndStores, Puts, PutsFrom, Receives, ReceivesFrom, ReceivesHeld, ReceivesSeen, Retrieves, Stores, StoresHeld, WritesTo, failed_if, lacks_memory, unless_failed}
 use Rattle.ftp_session.specs.Handed.{OpensOne, as_seen, with_data}
 use Rattle.ftp_transfer.specs.Saving.{EndsEarly, SaveFails, Saves, StopsAt}
 use Rattle.ftp_session.proofs.Backed.{IsGrave}
 use Rattle.ftp_session.proofs.Calm.{Calm, calm_on, calm_seen}
 use Rattle.ftp_session.proofs.Grounds.{none_then, step_calm}
-use Rattle.ftp_session.proofs.Reasons.{ends_reasons, opened_reasons}
+use Rattle.ftp_session.proofs.Reasons.{finish_reasons, opened_reasons}
 
 -- no failure was counted, and the session hasn't failed since
 abbrev Kept : Type 0 → SessionValue → SessionValue → Type 0
@@ -92,9 +92,9 @@ failed_at link false old last new told is counts =
     let P : SessionValue → Type 0 = λ v. CountsFaultsBeside link old v told in
     subst P (sym is) counts
 
-finishes_reasons : (link : Link) (coding : Coding) (transfer : TransferValue) (mark after : Option End) (old new : SessionValue) (fault : FtpError) → FinishesWhole link coding transfer mark after old new (Err fault) → CountsFaultsBeside link (with_data (Some transfer.told) old) new (Fault fault)
-finishes_reasons link coding transfer mark after old new fault (last, brings, is) =
-    failed_at link (lacks_memory (Err fault)) (with_data (Some transfer.told) old) last new (Fault fault) is (ends_reasons link coding false transfer mark after old last (Fault fault) brings)
+finishes_reasons : (link : Link) (coding : Coding) (held new : SessionValue) (fault : FtpError) → FinishesHeld link coding held new (Err fault) → CountsFaultsBeside link held new (Fault fault)
+finishes_reasons link coding held new fault (last, plays, is) =
+    failed_at link (lacks_memory (Err fault)) held last new (Fault fault) is (finish_reasons link coding held last (Fault fault) plays)
 
 -- What stops the bytes of a file
 
@@ -135,92 +135,73 @@ module _ (opens ends : Link) (same : opens.tells → ends.tells) (coding : Codin
       P : Result ℕ FtpError → Type 0
       P r = IfErr r (λ fault. CountsUpload opens ends coding called source source' mark former kept old new fault)
 
-      stores : OpensAndStores opens ends coding called source source' puts.between after former kept (as_seen puts.between old) new result → P result
-      stores s = ending s.stores.copied s.stores.copies s.stores.ends
+      stores : (s : OpensAndStores opens ends coding called source source' puts.between after former kept (as_seen puts.between old) new result) → StoresHeld ends coding source source' s.transfer after s.given new result → P result
+      stores s held = ending held.copied held.copies held.ends
         where
-          Moves : TransferValue → Result ℕ FtpError → TransferValue → Type 0
-          Moves t copied u = Copies ends.tells s.given.state.settings.text source source' t u copied
-
-          on : (fault : FtpError) → CopyStops ends.tells s.given.state.settings.text source source' fault s.transfer s.stores.sent ⊎ ((count : ℕ) × Copies ends.tells s.given.state.settings.text source source' s.transfer s.stores.sent (Ok count) × IsGivenBeside ends fault (with_data (Some s.stores.sent.told) s.given).net new.net) → OnOpened opens coding called Upload mark former kept old (λ transfer given. GivesOn ends (λ t copied u. Copies ends.tells given.state.settings.text source source' t u copied) (CopyStops ends.tells given.state.settings.text source source') transfer given new fault)
+          on : (fault : FtpError) → CopyStops ends.tells s.given.state.settings.text source source' fault s.transfer held.sent ⊎ ((count : ℕ) × Copies ends.tells s.given.state.settings.text source source' s.transfer held.sent (Ok count) × IsGivenBeside ends fault (with_data (Some held.sent.told) s.given).net new.net) → OnOpened opens coding called Upload mark former kept old (λ transfer given. GivesOn ends (λ t copied u. Copies ends.tells given.state.settings.text source source' t u copied) (CopyStops ends.tells given.state.settings.text source source') transfer given new fault)
           on fault why = record {
             transfer = s.transfer;
             marked = s.marked;
             given = s.given;
             opened = record { between = puts.between; looks = puts.looks; goes_on = s.opened };
-            is = record { over = s.stores.sent; why = why };
+            is = record { over = held.sent; why = why };
           }
 
-          last : (count : ℕ) → Copies ends.tells s.given.state.settings.text source source' s.transfer s.stores.sent (Ok count) → (ended : Result (Unit {0}) FtpError) → FinishesWhole ends coding s.stores.sent s.marked after s.given new ended → P (unless_failed count ended)
+          last : (count : ℕ) → Copies ends.tells s.given.state.settings.text source source' s.transfer held.sent (Ok count) → (ended : Result (Unit {0}) FtpError) → FinishesHeld ends coding (with_data (Some held.sent.told) s.given) new ended → P (unless_failed count ended)
           last count copied (Ok done) finishes = tt
           last count copied (Err fault) finishes =
-              of_end opens _ old new fault ends same (with_data (Some s.stores.sent.told) s.given) (kept_beside Upload puts.between s.marked s.given s.transfer s.stores.sent s.opened) (finishes_reasons ends coding s.stores.sent s.marked after s.given new fault finishes) (λ given. on fault (inr (count, copied, given)))
+              of_end opens _ old new fault ends same (with_data (Some held.sent.told) s.given) (kept_beside Upload puts.between s.marked s.given s.transfer held.sent s.opened) (finishes_reasons ends coding (with_data (Some held.sent.told) s.given) new fault finishes) (λ given. on fault (inr (count, copied, given)))
 
-          ending : (copied : Result ℕ FtpError) → Copies ends.tells s.given.state.settings.text source source' s.transfer s.stores.sent copied → EndsUpload ends coding s.stores.sent s.marked after s.given new copied result → P result
+          ending : (copied : Result ℕ FtpError) → Copies ends.tells s.given.state.settings.text source source' s.transfer held.sent copied → EndsUpload ends coding (with_data (Some held.sent.told) s.given) new copied result → P result
           ending (Ok count) copied (ended, finishes, is) = subst P (sym is) (last count copied ended finishes)
-          ending (Err fault) gave (left, is) = subst P (sym is) (of_transfer opens _ old new fault (λ grave. on fault (inl (copy_stops ends.tells s.given.state.settings.text source source' s.transfer s.stores.sent fault gave grave))))
+          ending (Err fault) gave (left, is) = subst P (sym is) (of_transfer opens _ old new fault (λ grave. on fault (inl (copy_stops ends.tells s.given.state.settings.text source source' s.transfer held.sent fault gave grave))))
+
+      unmoved : (s : OpensAndStores opens ends coding called source source' puts.between after former kept (as_seen puts.between old) new result) → Stores ends coding source source' s.transfer s.marked after s.given new result → P result
+      unmoved s (inl held) = stores s held
+      unmoved s (inr none) = subst P (sym none.is) (of_transfer opens _ old new faults.OutOfMemory (λ grave. absurd grave))
 
       go : PutsFrom opens ends coding called source source' puts.between after former kept (as_seen puts.between old) new result → P result
-      go (inl s) = stores s
+      go (inl s) = unmoved s s.stores
       go (inr (fault, is, opened, none)) = subst P (sym is) (of_opening opens _ old new fault (opened_reasons opens coding called sends_none Upload mark after former kept old new (Err fault) (record { between = puts.between; looks = puts.looks; goes_on = opened })))
 
-  pub download_counts : {T : Type 0} (Reads : TransferValue → Result T FtpError → TransferValue → Type 0) (result : Result T FtpError) → Retrieves opens ends coding called Reads mark after former kept old new result → IfErr result (λ fault. CountsDownload opens ends coding called Reads mark former kept old new fault)
-  download_counts {T} Reads result retrieves = go retrieves.goes_on
+  -- a download to a reader or a writer, which stops with an error of its own
+  received_counts : {T : Type 0} (Moves : TransferValue → Result T FtpError → TransferValue → Type 0) (Stops : FtpError → TransferValue → TransferValue → Type 0) (Stays : Type 0) → ((fault : FtpError) (t u : TransferValue) → Moves t (Err fault) u → IsGrave fault → Stops fault t u) → (result : Result T FtpError) → ReceivesSeen opens ends coding called Moves Stays mark after former kept old new result → IfErr result (λ fault. CountsWhole opens (OnOpened opens coding called Download mark former kept old (λ transfer given. GivesOn ends Moves Stops transfer given new fault)) old new fault)
+  received_counts {T} Moves Stops Stays stops result received = go received.goes_on
     where
       P : Result T FtpError → Type 0
-      P r = IfErr r (λ fault. CountsDownload opens ends coding called Reads mark former kept old new fault)
+      P r = IfErr r (λ fault. CountsWhole opens (OnOpened opens coding called Download mark former kept old (λ transfer given. GivesOn ends Moves Stops transfer given new fault)) old new fault)
 
-      reads : OpensAndReads opens ends coding called Reads retrieves.between after former kept (as_seen retrieves.between old) new result → P result
-      reads s = ending s.read s.reads s.is
+      receives : (s : OpensAndReceives opens ends coding called Moves Stays received.between after former kept (as_seen received.between old) new result) → ReceivesHeld ends coding (Moves s.transfer) after s.given new result → P result
+      receives s held = ending held.moved held.moves held.ends
         where
-          on : (fault : FtpError) → Reads s.transfer (Err fault) s.over ⊎ ((value : T) × Reads s.transfer (Ok value) s.over × IsGivenBeside ends fault (with_data (Some s.over.told) s.given).net new.net) → OnOpened opens coding called Download mark former kept old (λ transfer given. GivesOn ends Reads (λ error t u. Reads t (Err error) u) transfer given new fault)
+          on : (fault : FtpError) → Stops fault s.transfer held.over ⊎ ((value : T) × Moves s.transfer (Ok value) held.over × IsGivenBeside ends fault (with_data (Some held.over.told) s.given).net new.net) → OnOpened opens coding called Download mark former kept old (λ transfer given. GivesOn ends Moves Stops transfer given new fault)
           on fault why = record {
             transfer = s.transfer;
             marked = s.marked;
             given = s.given;
-            opened = record { between = retrieves.between; looks = retrieves.looks; goes_on = s.opened };
-            is = record { over = s.over; why = why };
+            opened = record { between = received.between; looks = received.looks; goes_on = s.opened };
+            is = record { over = held.over; why = why };
           }
 
-          last : (value : T) → Reads s.transfer (Ok value) s.over → (ended : Result (Unit {0}) FtpError) → FinishesWhole ends coding s.over s.marked after s.given new ended → P (unless_failed value ended)
-          last value read (Ok done) finishes = tt
-          last value read (Err fault) finishes =
-              of_end opens _ old new fault ends same (with_data (Some s.over.told) s.given) (kept_beside Download retrieves.between s.marked s.given s.transfer s.over s.opened) (finishes_reasons ends coding s.over s.marked after s.given new fault finishes) (λ given. on fault (inr (value, read, given)))
+          last : (value : T) → Moves s.transfer (Ok value) held.over → (ended : Result (Unit {0}) FtpError) → FinishesHeld ends coding (with_data (Some held.over.told) s.given) new ended → P (unless_failed value ended)
+          last value moved (Ok done) finishes = tt
+          last value moved (Err fault) finishes =
+              of_end opens _ old new fault ends same (with_data (Some held.over.told) s.given) (kept_beside Download received.between s.marked s.given s.transfer held.over s.opened) (finishes_reasons ends coding (with_data (Some held.over.told) s.given) new fault finishes) (λ given. on fault (inr (value, moved, given)))
 
-          ending : (read : Result T FtpError) → Reads s.transfer read s.over → result ≡ first_of read s.ended → P result
-          ending (Ok value) read is = subst P (sym is) (last value read s.ended s.ends_it)
-          ending (Err fault) read is = subst P (sym is) (of_transfer opens _ old new fault (λ grave. on fault (inl read)))
+          ending : (moved : Result T FtpError) → Moves s.transfer moved held.over → EndsDownload ends coding (with_data (Some held.over.told) s.given) new (Some moved) result → P result
+          ending (Ok value) moved (ended, finishes, is) = subst P (sym is) (last value moved ended finishes)
+          ending (Err fault) moved (ended, finishes, is) = subst P (sym is) (of_transfer opens _ old new fault (λ grave. on fault (inl (stops fault s.transfer held.over moved grave))))
 
-      go : RetrievesFrom opens ends coding called Reads retrieves.between after former kept (as_seen retrieves.between old) new result → P result
-      go (inl s) = reads s
-      go (inr (fault, is, opened)) = subst P (sym is) (of_opening opens _ old new fault (opened_reasons opens coding called sends_none Download mark after former kept old new (Err fault) (record { between = retrieves.between; looks = retrieves.looks; goes_on = opened })))
+      unmoved : (s : OpensAndReceives opens ends coding called Moves Stays received.between after former kept (as_seen received.between old) new result) → Receives ends coding (Moves s.transfer) Stays s.marked after s.given new result → P result
+      unmoved s (inl held) = receives s held
+      unmoved s (inr none) = subst P (sym none.is) (of_transfer opens _ old new faults.OutOfMemory (λ grave. absurd grave))
+
+      go : ReceivesFrom opens ends coding called Moves Stays received.between after former kept (as_seen received.between old) new result → P result
+      go (inl s) = unmoved s s.receives
+      go (inr (fault, is, opened, none)) = subst P (sym is) (of_opening opens _ old new fault (opened_reasons opens coding called sends_none Download mark after former kept old new (Err fault) (record { between = received.between; looks = received.looks; goes_on = opened })))
+
+  pub download_counts : {T : Type 0} (Reads : TransferValue → Result T FtpError → TransferValue → Type 0) (result : Result T FtpError) → Retrieves opens ends coding called Reads mark after former kept old new result → IfErr result (λ fault. CountsDownload opens ends coding called Reads mark former kept old new fault)
+  download_counts {T} Reads result retrieves = received_counts {T = T} Reads (λ error t u. Reads t (Err error) u) (Unit {0}) (λ fault t u read grave. read) result retrieves
 
   pub saving_counts : (writer writer' : Option (List ℕ)) (result : Result ℕ FtpError) → WritesTo opens ends coding called writer writer' mark after former kept old new result → IfErr result (λ fault. CountsSaving opens ends coding called writer writer' mark former kept old new fault)
-  saving_counts writer writer' result writes = go writes.goes_on
-    where
-      P : Result ℕ FtpError → Type 0
-      P r = IfErr r (λ fault. CountsSaving opens ends coding called writer writer' mark former kept old new fault)
-
-      receives : OpensAndReceives opens ends coding called writer writer' writes.between after former kept (as_seen writes.between old) new result → P result
-      receives s = ending s.receives.saved s.receives.saves s.receives.is
-        where
-          on : (fault : FtpError) → SaveStops ends.tells writer writer' fault s.transfer s.receives.over ⊎ ((count : ℕ) × Saves ends.tells writer writer' s.transfer s.receives.over (Ok count) × IsGivenBeside ends fault (with_data (Some s.receives.over.told) s.given).net new.net) → OnOpened opens coding called Download mark former kept old (λ transfer given. GivesOn ends (λ t saved u. Saves ends.tells writer writer' t u saved) (SaveStops ends.tells writer writer') transfer given new fault)
-          on fault why = record {
-            transfer = s.transfer;
-            marked = s.marked;
-            given = s.given;
-            opened = record { between = writes.between; looks = writes.looks; goes_on = s.opened };
-            is = record { over = s.receives.over; why = why };
-          }
-
-          last : (count : ℕ) → Saves ends.tells writer writer' s.transfer s.receives.over (Ok count) → (ended : Result (Unit {0}) FtpError) → FinishesWhole ends coding s.receives.over s.marked after s.given new ended → P (unless_failed count ended)
-          last count saved (Ok done) finishes = tt
-          last count saved (Err fault) finishes =
-              of_end opens _ old new fault ends same (with_data (Some s.receives.over.told) s.given) (kept_beside Download writes.between s.marked s.given s.transfer s.receives.over s.opened) (finishes_reasons ends coding s.receives.over s.marked after s.given new fault finishes) (λ given. on fault (inr (count, saved, given)))
-
-          ending : (saved : Result ℕ FtpError) → Saves ends.tells writer writer' s.transfer s.receives.over saved → result ≡ first_of saved s.receives.ended → P result
-          ending (Ok count) saved is = subst P (sym is) (last count saved s.receives.ended s.receives.ends)
-          ending (Err fault) fails is = subst P (sym is) (of_transfer opens _ old new fault (λ grave. on fault (inl (save_stops ends.tells writer writer' s.transfer s.receives.over fault fails grave))))
-
-      go : WritesFrom opens ends coding called writer writer' writes.between after former kept (as_seen writes.between old) new result → P result
-      go (inl s) = receives s
-      go (inr (fault, is, opened, none)) = subst P (sym is) (of_opening opens _ old new fault (opened_reasons opens coding called sends_none Download mark after former kept old new (Err fault) (record { between = writes.between; looks = writes.looks; goes_on = opened })))
+  saving_counts writer writer' result writes = received_counts (λ t saved u. Saves ends.tells writer writer' t u saved) (SaveStops ends.tells writer writer') (writer' ≡ writer) (λ fault t u saved grave. save_stops ends.tells writer writer' t u fault saved grave) result writes

@@ -137,6 +137,10 @@ said_failed link old begun new other none same = go old.channel.failed refl
         told_one link (Unit {0}) Spent begun new faults.SessionFailed (inl (subst P (ap (λ c. c.failed) (sym same)) failed))
     go false going = one_beside link begun new other none
 
+-- a transfer whose data connection was taken back is finished
+pub finish_reasons : (link : Link) (coding : Coding) (held new : SessionValue) (told : Answer) → PlaysAlone link coding call.Finish held new told → CountsFaultsBeside link held new told
+finish_reasons link coding held new told plays = to_beside link held new told (alone_grounds link (Unit {0}) Spent coding call.Finish held new told (opens_backed coding call.Finish refl) plays)
+
 -- a transfer comes to its end
 ends_send : (aborts : Bool) → sends (cond aborts call.Abort call.Finish) ≡ false
 ends_send true = refl

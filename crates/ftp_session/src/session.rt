@@ -17,6 +17,7 @@ mod implicit;
 mod lending;
 mod looking;
 mod making;
+mod moving;
 mod opening;
 mod parameters;
 mod polled_tls;

@@ -222,7 +222,7 @@ fn put_back<Tr: Network>(
 }
 
 /// The result of a call that brings a transfer to its end.
-fn ended(answer: Answer) -> FtpResult<()>
+pub(super) fn ended(answer: Answer) -> FtpResult<()>
     requires { EndsOnly answer }
     ensures { unit_answer result ≡ answer }
 {

@@ -3,20 +3,23 @@
 //! Each opens a transfer as its stream form does, moves the bytes, and brings the transfer to its end, of which the
 //! caller sees nothing. An upload that fails leaves its transfer: its last reply is read before the next command.
 
-ghost use Rattle.std.specs.Prelude.{◌≡◌, IfErr};
+ghost use Rattle.std.specs.Prelude.{◌≡◌, IfErr, false, is_none};
 ghost use Rattle.ftp_dialogue.specs.Coding.{chosen};
 ghost use Rattle.ftp_dialogue.specs.Link.{asking, blocking, built_by};
 ghost use Rattle.ftp_session.specs.Counting.{CountsDownload, CountsSaving, CountsUpload};
-ghost use Rattle.ftp_session.specs.Files.{Abandons, FinishesWhole, Puts, Retrieves, Stores, failed_if, first_of, lacks_memory, unless_failed, Receives, WritesTo};
+ghost use Rattle.ftp_session.specs.Files.{EndsDownload, EndsUpload, FinishesHeld, Puts, Receives, Retrieves, Stores, WritesTo, failed_if, first_of, lacks_memory, unless_failed};
 ghost use Rattle.ftp_session.specs.Kept.{Keeps, KeepsChoices};
+ghost use Rattle.ftp_transfer.specs.Saving.{Saves};
 
 use super::client::Session;
-use super::ending::take_back;
+use super::ending::{ended, leave_behind};
+use super::moving::{read_held, send_held, write_held};
 use super::polling::DropsCalls;
 use super::{Answer, Call};
 use ftp_base::encoding::Encoding;
 use ftp_base::types::{FtpError, FtpResult};
-use ftp_transfer::{NoProgress, Progress, Transfer, Watch, copy, save};
+use ftp_dialogue::asks::Nothing;
+use ftp_transfer::{NoProgress, Progress, Transfer, Watch};
 use ftp_transport::{Conn, Network, PassiveStreamBuilder, Transport};
 use std::alloc::Global;
 use std::io::{Read, Write};
@@ -53,8 +56,8 @@ where
     /// Those of a data command: `DataConnectionAlreadyOpen` where a transfer is live, and nothing is sent. The error of
     /// the source or of the data connection, `SourceTooLarge` where more than 2^63 - 1 bytes would be written,
     /// `OutOfMemory` for a buffer: what was read before is written, the last reply isn't read, and the transfer is
-    /// left. The error of the data connection's close comes before that of the last reply. `OutOfMemory` for the last
-    /// reply leaves the transfer, and the session has failed.
+    /// left; or for the record of the data connection, and nothing is read. The error of the data connection's close comes
+    /// before that of the last reply. `OutOfMemory` for the last reply leaves the transfer, and the session has failed.
     pub fn put_file<R, S: Read>(
         &mut self,
         alloc: Global,
@@ -179,7 +182,8 @@ where
     /// # Errors
     /// Those of a data command: `DataConnectionAlreadyOpen` where a transfer is live, and nothing is sent. The reader's
     /// error, whatever the last reply is, which is read all the same; else the error of the last reply. `OutOfMemory`
-    /// for the last reply leaves the transfer, and the session has failed.
+    /// for the last reply leaves the transfer, and the session has failed; for the record of the data connection it leaves
+    /// the transfer, and the reader isn't called.
     pub fn retr<R, D: Drop, F: DownloadReader<Tr::Conn, D>>(
         &mut self,
         alloc: Global,
@@ -201,11 +205,7 @@ where
         ensures keeps { KeepsChoices self.old self.new }
     {
         match self.retr_as_stream(alloc, rt, path) {
-            Ok(mut transfer) => {
-                let read = reader.read(&mut transfer);
-                self.note(&read, false);
-                first_of(read, self.finish_whole(alloc, transfer))
-            }
+            Ok(transfer) => self.read_by(alloc, reader, transfer),
             Err(fault) => Err(fault),
         }
     }
@@ -219,7 +219,7 @@ where
     /// the data connection, where what came was written, or of the writer, where a front of that was; `SourceTooLarge`
     /// where more than 2^63 - 1 bytes come; `OutOfMemory` for a buffer: whatever the last reply is, which is read all
     /// the same. Else the error of the last reply. `OutOfMemory` for that leaves the transfer, and the session has
-    /// failed.
+    /// failed; for the record of the data connection it leaves the transfer, and nothing is written.
     pub fn write_to<R, W: Write, P: Progress>(
         &mut self,
         alloc: Global,
@@ -248,48 +248,129 @@ where
         }
     }
 
-    /// Writes a transfer's bytes to a writer, and brings the transfer to its end.
+    /// Hands a transfer to a reader, and brings it to its end. Where there is no memory for the record of its data
+    /// connection the reader isn't called, and the transfer is left.
+    fn read_by<D: Drop, F: DownloadReader<Tr::Conn, D>>(
+        &mut self,
+        alloc: Global,
+        reader: &mut F,
+        transfer: Transfer<Tr::Conn>,
+    ) -> FtpResult<D>
+        ensures receives { Receives (blocking Tr.Conn.Conn)
+            (chosen E.decoded E.encoded self.old.encoding.0) (F.reads transfer) (Unit {0})
+            self.old.mark self.new.mark self.old.machine self.new.machine result }
+        ensures keeps { Keeps self.old self.new }
+    {
+        let read = read_held(&mut self.machine, &mut self.mark, transfer, reader);
+        self.end_download(alloc, read, false)
+    }
+
+    /// Writes a transfer's bytes to a writer, and brings the transfer to its end. Where there is no memory for the record of
+    /// its data connection nothing is written, and the transfer is left.
     fn receive<W: Write, P: Progress>(
         &mut self,
         alloc: Global,
         writer: &mut W,
         progress: &mut P,
-        mut transfer: Transfer<Tr::Conn>,
+        transfer: Transfer<Tr::Conn>,
     ) -> FtpResult<u64>
         ensures receives { Receives (blocking Tr.Conn.Conn)
-            (chosen E.decoded E.encoded self.old.encoding.0) (W.contents writer.old)
-            (W.contents writer.new) transfer self.old.mark self.new.mark self.old.machine
-            self.new.machine result }
+            (chosen E.decoded E.encoded self.old.encoding.0)
+            (λ saved over. Saves Tr.Conn.tells (W.contents writer.old) (W.contents writer.new)
+            transfer over saved)
+            (W.contents writer.new ≡ W.contents writer.old) self.old.mark self.new.mark
+            self.old.machine self.new.machine result }
         ensures keeps { Keeps self.old self.new }
     {
         let mut watch = Watch::new(progress);
-        let saved = save(alloc, &mut transfer, writer, &mut watch);
-        self.note(&saved, watch.data_failed());
-        first_of(saved, self.finish_whole(alloc, transfer))
+        let saved = write_held(
+            &mut self.machine,
+            &mut self.mark,
+            alloc,
+            transfer,
+            writer,
+            &mut watch,
+        );
+        self.end_download(alloc, saved, watch.data_failed())
     }
 
-    /// Copies a source to a transfer, and brings it to its end; or leaves it, where that can't be done.
+    /// Copies a source to a transfer, and brings it to its end; or leaves it, where that can't be done. Where there is no
+    /// memory for the record of its data connection nothing is read.
     fn store<S: Read, P: Progress>(
         &mut self,
         alloc: Global,
         source: &mut S,
         progress: &mut P,
-        mut transfer: Transfer<Tr::Conn>,
+        transfer: Transfer<Tr::Conn>,
     ) -> FtpResult<u64>
         ensures stores { Stores (blocking Tr.Conn.Conn) (chosen E.decoded E.encoded
             self.old.encoding.0) (S.remaining source.old) (S.remaining source.new) transfer
             self.old.mark self.new.mark self.old.machine self.new.machine result }
         ensures keeps { Keeps self.old self.new }
     {
-        let text = self.machine.state.settings.text;
         let mut watch = Watch::new(progress);
-        let copied = copy(alloc, text, source, &mut transfer, &mut watch);
-        self.note(&copied, watch.data_failed());
+        let copied = send_held(
+            &mut self.machine,
+            &mut self.mark,
+            alloc,
+            source,
+            transfer,
+            &mut watch,
+        );
         match copied {
-            Ok(count) => unless_failed(count, self.finish_whole(alloc, transfer)),
+            Some(copied) => self.end_upload(alloc, copied, watch.data_failed()),
+            None => {
+                leave_behind(&mut self.machine);
+                Err(FtpError::OutOfMemory)
+            }
+        }
+    }
+
+    /// Brings an upload to its end, whose data connection was taken back; or leaves it, where it wasn't copied.
+    fn end_upload(
+        &mut self,
+        alloc: Global,
+        copied: FtpResult<u64>,
+        data_failed: bool,
+    ) -> FtpResult<u64>
+        requires held { is_none self.old.machine.net.data_conn ≡ false }
+        ensures ends { EndsUpload (blocking Tr.Conn.Conn) (chosen E.decoded E.encoded
+            self.old.encoding.0) self.old.machine self.new.machine copied result }
+        ensures mark { self.new.mark ≡ self.old.mark }
+        ensures keeps { Keeps self.old self.new }
+    {
+        self.note(&copied, data_failed);
+        match copied {
+            Ok(count) => unless_failed(count, self.finish_held(alloc)),
             Err(fault) => {
-                self.abandon(alloc, transfer);
+                pass_over(self.machine.carry(alloc, &Call::Leave));
                 Err(fault)
+            }
+        }
+    }
+
+    /// Brings a download to its end, whose data connection was taken back; or leaves it, where nothing of it was moved.
+    fn end_download<T: Drop>(
+        &mut self,
+        alloc: Global,
+        moved: Option<FtpResult<T>>,
+        data_failed: bool,
+    ) -> FtpResult<T>
+        requires held { is_none moved ≡ false →
+            is_none self.old.machine.net.data_conn ≡ false }
+        ensures ends { EndsDownload (blocking Tr.Conn.Conn) (chosen E.decoded E.encoded
+            self.old.encoding.0) self.old.machine self.new.machine moved result }
+        ensures mark { self.new.mark ≡ self.old.mark }
+        ensures keeps { Keeps self.old self.new }
+    {
+        match moved {
+            Some(moved) => {
+                self.note(&moved, data_failed);
+                first_of(moved, self.finish_held(alloc))
+            }
+            None => {
+                leave_behind(&mut self.machine);
+                Err(FtpError::OutOfMemory)
             }
         }
     }
@@ -305,15 +386,20 @@ where
         }
     }
 
-    /// Brings the transfer of a whole file to its end. Where memory runs out for that the session has failed, since the
-    /// file's call has begun.
-    fn finish_whole(&mut self, alloc: Global, transfer: Transfer<Tr::Conn>) -> FtpResult<()>
-        ensures finishes { FinishesWhole (blocking Tr.Conn.Conn)
-            (chosen E.decoded E.encoded self.old.encoding.0) transfer self.old.mark self.new.mark
-            self.old.machine self.new.machine result }
+    /// Brings a transfer to its end whose data connection was taken back. Where memory runs out for that the session has
+    /// failed, since the file's call has begun.
+    fn finish_held(&mut self, alloc: Global) -> FtpResult<()>
+        requires held { is_none self.old.machine.net.data_conn ≡ false }
+        ensures finishes { FinishesHeld (blocking Tr.Conn.Conn)
+            (chosen E.decoded E.encoded self.old.encoding.0) self.old.machine self.new.machine
+            result }
+        ensures mark { self.new.mark ≡ self.old.mark }
         ensures keeps { Keeps self.old self.new }
     {
-        let ended = self.finish(alloc, transfer);
+        let ended = ended(
+            self.machine
+                .call_alone(&Nothing, alloc, &self.encoding, &Call::Finish),
+        );
         self.fail_if(lacks_memory(&ended));
         ended
     }
@@ -326,17 +412,6 @@ where
     {
         if lost {
             self.fail();
-        }
-    }
-
-    /// Leaves a transfer, and hands its data connection back, closed.
-    fn abandon(&mut self, alloc: Global, transfer: Transfer<Tr::Conn>)
-        ensures abandons { Abandons Tr.Conn.tells transfer self.old.mark self.new.mark
-            self.old.machine self.new.machine }
-        ensures keeps { Keeps self.old self.new }
-    {
-        if take_back(self, transfer).is_ok() {
-            pass_over(self.machine.carry(alloc, &Call::Leave));
         }
     }
 }

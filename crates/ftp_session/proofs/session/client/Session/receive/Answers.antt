@@ -1,11 +1,5 @@
+use Rattle.ftp_session.proofs.FilesLemmas.{received}
 use Rattle.ftp_session.proofs.session.client.Session.receive.Goals as goal
 
 pub returns-clause-receives : goal.returns-clause-receives
-returns-clause-receives g c = record {
-  over = c.save-saved.new.transfer;
-  saved = c.save-saved.result;
-  saves = c.save-saved.ensures.saves;
-  ended = c.finish_whole.result;
-  ends = rw (c.note.ensures.keeps.encoding, c.note.ensures.mark, c.note.ensures.machine) at c.finish_whole.ensures.finishes;
-  is = c.first_of.ensures;
-}
+returns-clause-receives g c = rw c.end_download.ensures.mark (received _ _ _ _ _ _ _ _ _ _ _ c.write_held-saved.ensures.moves c.end_download.ensures.ends)

@@ -1,18 +1,14 @@
-use Rattle.std.proofs.Common.{Ok, Err, refl, rules}
+use Rattle.std.proofs.Common.{inl, inr, ap, ◌∙◌, refl, true}
+use Rattle.ftp_session.specs.Handed.{left_if}
 use Rattle.ftp_session.proofs.session.client.Session.store.Goals as goal
 
-pub returns-in-Ok-clause-stores : goal.returns-in-Ok-clause-stores
-returns-in-Ok-clause-stores g c = record {
-  sent = c.copy-copied.new.transfer;
-  copied = Ok c.in-Ok.count;
-  copies = search rules;
-  ends = (c.finish_whole.result, rw (c.note.ensures.keeps.encoding, c.note.ensures.mark, c.note.ensures.machine) at c.finish_whole.ensures.finishes, c.unless_failed.ensures);
-}
+pub returns-in-Some-clause-stores : goal.returns-in-Some-clause-stores
+returns-in-Some-clause-stores g c =
+    let moves = rw c.in-Some.is at c.send_held-copied.ensures.moves in
+    let ends = rw moves.3 at c.end_upload.ensures.ends in
+    inl (record { sent = moves.0; copied = c.in-Some.copied; copies = moves.1; mark = c.end_upload.ensures.mark ∙ moves.2; ends = ends })
 
-pub returns-in-Err-clause-stores : goal.returns-in-Err-clause-stores
-returns-in-Err-clause-stores g c = record {
-  sent = c.copy-copied.new.transfer;
-  copied = Err c.in-Err.fault;
-  copies = search rules;
-  ends = (rw (c.note.ensures.mark, c.note.ensures.machine) at c.abandon.ensures.abandons, refl);
-}
+pub returns-in-None-clause-stores : goal.returns-in-None-clause-stores
+returns-in-None-clause-stores g c =
+    let moves = rw c.in-None.is at c.send_held-copied.ensures.moves in
+    inr (record { stays = moves.0; mark_stays = moves.1; left = c.leave_behind.ensures ∙ ap (left_if true) moves.2; is = refl })

@@ -1,14 +1,14 @@
 use Rattle.std.proofs.Common.{refl}
 use Rattle.ftp_calls.specs.declared.call.Call.TheVariants.{RetrAsStream}
 use Rattle.ftp_session.proofs.FilesCounts.{of_opening, saving_counts}
-use Rattle.ftp_session.proofs.FilesLemmas.{writes_on}
+use Rattle.ftp_session.proofs.FilesLemmas.{receives_on}
 use Rattle.ftp_session.proofs.session.client.Session.write_to.Goals as goal
 
 pub returns-in-Ok-clause-writes : goal.returns-in-Ok-clause-writes
 returns-in-Ok-clause-writes g c =
     let opened = rw c.in-Ok.is at c.retr_as_stream.ensures.opens in
     let receives = rw c.retr_as_stream.ensures.keeps.encoding at c.receive.ensures.receives in
-    rw c.receive.ensures.keeps.former (writes_on _ _ _ _ _ c.retr_as_stream.new.self.mark _ _ c.retr_as_stream.new.self.former _ c.retr_as_stream.new.self.machine _ c.in-Ok.transfer _ _ _ opened receives)
+    rw c.receive.ensures.keeps.former (receives_on _ _ _ _ _ c.retr_as_stream.new.self.mark _ _ c.retr_as_stream.new.self.former _ c.retr_as_stream.new.self.machine _ c.in-Ok.transfer _ _ _ opened receives)
 
 pub returns-in-Ok-clause-counts : goal.returns-in-Ok-clause-counts
 returns-in-Ok-clause-counts g c = saving_counts _ _ (λ h. h) _ (RetrAsStream c.args.path.now) refl _ _ _ _ _ _ _ _ _ (returns-in-Ok-clause-writes g c)

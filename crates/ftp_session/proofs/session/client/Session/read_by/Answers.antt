@@ -1,0 +1,5 @@
+use Rattle.ftp_session.proofs.FilesLemmas.{received}
+use Rattle.ftp_session.proofs.session.client.Session.read_by.Goals as goal
+
+pub returns-clause-receives : goal.returns-clause-receives
+returns-clause-receives g c = rw c.end_download.ensures.mark (received _ _ _ _ _ _ _ _ _ _ _ c.read_held-read.ensures.moves c.end_download.ensures.ends)
