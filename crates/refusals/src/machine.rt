@@ -1,19 +1,21 @@
 //! Calls of the machine that plays every dialogue.
 
-ghost use Rattle.std.specs.Prelude.{◌≡◌, true, false};
+ghost use Rattle.std.specs.Prelude.{◌≡◌, ◌⊎◌, true, false};
 ghost use Rattle.futures.specs.declared.task.Poll.TheVariants as poll;
 ghost use Rattle.ftp_calls.specs.Exchanges.{drains, is_local, negotiates, of_transfer};
-ghost use Rattle.ftp_dialogue.specs.CatchingUp.{CatchesUp, InStepIf, is_behind, is_plain_read};
+ghost use Rattle.ftp_dialogue.specs.CatchingUp.{CatchesUp, InStepIf, PollsReadInStep, is_behind, is_plain_read};
 ghost use Rattle.ftp_dialogue.specs.Coding.{coding_of};
 ghost use Rattle.ftp_dialogue.specs.Dropping.{DropsCall};
 ghost use Rattle.ftp_dialogue.specs.Link.{asking, blocking, polling};
 ghost use Rattle.ftp_dialogue.specs.Play.{Lacking};
-ghost use Rattle.ftp_dialogue.specs.Promises.{refusal_of};
+ghost use Rattle.ftp_dialogue.specs.Dialogue.{expecting};
+ghost use Rattle.ftp_dialogue.specs.Promises.{GivesFault, refusal_of};
 ghost use Rattle.ftp_dialogue.specs.Steps.Moving.{Made, MadeDrained};
 ghost use Rattle.ftp_dialogue.specs.Steps.Stages.{MayAnswer};
 
 use ftp_base::encoding::Encoding;
-use ftp_base::types::FtpError;
+use ftp_base::status::Status;
+use ftp_base::types::{FtpError, FtpResult, Response};
 use ftp_dialogue::asks::Asks;
 use ftp_dialogue::machine::Machine;
 use ftp_dialogue::stage::Stage;
@@ -107,4 +109,23 @@ pub fn drop_call<Tr: Network>(machine: &mut Machine<Tr>, call: &Call, stage: &St
     ensures drops { DropsCall Tr.Conn.tells call.now stage.now machine.old machine.new }
 {
     machine.drop_call(call, stage);
+}
+
+/// `Machine::poll_read`.
+pub fn poll_read<Tr: Network, W, E: Encoding>(
+    machine: &mut Machine<Tr>,
+    alloc: Global,
+    encoding: &E,
+    expected: &[Status],
+    w: &mut W,
+) -> Poll<FtpResult<Response>>
+where
+    Tr::Conn: PollConn<W>,
+    ensures waits { result ≡ poll.Pending → Tr.Conn.may_wait }
+    ensures fails { machine.new.channel.failed ≡ true →
+        (machine.old.channel.failed ≡ true) ⊎ GivesFault result }
+    ensures reads { PollsReadInStep (polling Tr.Conn.PollConn) (coding_of E.decoded E.encoded encoding.now) (expecting expected.now)
+        machine.old machine.new result }
+{
+    machine.poll_read(alloc, encoding, expected, w)
 }

@@ -6,8 +6,8 @@ ghost use Rattle.ftp_dialogue.specs.Coding.{chosen};
 ghost use Rattle.ftp_dialogue.specs.Counted.{CountsFaultsBeside};
 ghost use Rattle.ftp_dialogue.specs.Link.{asking, blocking, built_by};
 ghost use Rattle.ftp_session.specs.Calls.{bytes_answer, lines_answer};
-ghost use Rattle.ftp_session.specs.Counting.{CountsDownload, CountsSaving};
-ghost use Rattle.ftp_session.specs.Files.{Retrieves, WritesTo};
+ghost use Rattle.ftp_session.specs.Counting.{CountsDownload, CountsSaving, CountsUpload};
+ghost use Rattle.ftp_session.specs.Files.{Puts, Retrieves, WritesTo};
 ghost use Rattle.ftp_session.specs.Handed.{Opens, PlaysSeen};
 ghost use Rattle.ftp_transfer.specs.declared.direction.Direction.TheVariants as directions;
 ghost use Rattle.ftp_session.specs.Kept.{Keeps, KeepsChoices};
@@ -18,7 +18,7 @@ use ftp_session::session::{Call, DownloadReader, Session};
 use ftp_transfer::{Progress, Transfer};
 use ftp_transport::{Conn, Network, PassiveStreamBuilder, Transport};
 use std::alloc::Global;
-use std::io::Write;
+use std::io::{Read, Write};
 
 /// `Session::retr_as_stream`.
 pub fn retr_as_stream<Tr: Network, K: Drop, E: Encoding, B: PassiveStreamBuilder<Tr::Conn>, R>(
@@ -173,4 +173,37 @@ where
     ensures keeps { KeepsChoices session.old session.new }
 {
     session.write_to(alloc, rt, path, writer, progress)
+}
+
+/// `Session::put_file`.
+pub fn put_file<
+    Tr: Network,
+    K: Drop,
+    E: Encoding,
+    B: PassiveStreamBuilder<Tr::Conn>,
+    R,
+    S: Read,
+>(
+    session: &mut Session<Tr, K, E, B>,
+    alloc: Global,
+    rt: &R,
+    path: &str,
+    source: &mut S,
+) -> FtpResult<u64>
+where
+    Tr::Conn: Conn,
+    Tr: Transport<R>,
+    ensures puts { Puts (asking (built_by B.answers session.old.builder) ⊥ (blocking Tr.Conn.Conn))
+        (blocking Tr.Conn.Conn) (chosen E.decoded E.encoded session.old.encoding.0)
+        (Call.PutWithStream path.now) (S.remaining source.old) (S.remaining source.new)
+        session.old.mark session.new.mark session.old.former session.new.former session.old.machine
+        session.new.machine result }
+    ensures counts { IfErr result (λ fault. CountsUpload
+        (asking (built_by B.answers session.old.builder) ⊥ (blocking Tr.Conn.Conn))
+        (blocking Tr.Conn.Conn) (chosen E.decoded E.encoded session.old.encoding.0)
+        (Call.PutWithStream path.now) (S.remaining source.old) (S.remaining source.new)
+        session.old.mark session.old.former session.new.former session.old.machine session.new.machine fault) }
+    ensures keeps { KeepsChoices session.old session.new }
+{
+    session.put_file(alloc, rt, path, source)
 }
