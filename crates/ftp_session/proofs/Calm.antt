@@ -1,5 +1,5 @@
 -- Parts of a call in which nothing failed, and what happened beside the control connection meanwhile.
-use Rattle.std.proofs.Common.{◌≡◌, ◌++◌, Bool, true, false, List, [], ◌∷◌, Option, Some, None, inl, inr, refl, ap, sym, ◌∙◌, subst}
+use Rattle.std.proofs.Common.{◌≡◌, ◌&&◌, ◌++◌, Bool, true, false, List, [], ◌∷◌, Option, Some, None, inl, inr, refl, ap, sym, ◌∙◌, subst}
 use Rattle.ftp_base.specs.declared.types.fault.FtpError.{FtpError}
 use Rattle.ftp_transport.specs.Told.{NoneFailed}
 use Rattle.ftp_transfer.specs.Mark.{End}
@@ -9,7 +9,7 @@ use Rattle.ftp_dialogue.specs.NetEvents.{Constructed, Handshook, Net, NetEvent, 
 use Rattle.ftp_dialogue.specs.State.{LetsGo, SessionValue}
 use Rattle.ftp_dialogue.specs.declared.model.NetOutcome.{NetOutcome}
 use Rattle.ftp_dialogue.proofs.NetEvents.{drops, letting_net_events, net_events-append, outcomes-append}
-use Rattle.ftp_session.specs.Handed.{as_seen, left_if}
+use Rattle.ftp_session.specs.Handed.{as_seen, found, left_if, watches}
 
 -- What happened beside the control connection
 
@@ -87,13 +87,9 @@ pub asked_calm : (link : Link) (old new : SessionValue) → Calm (unasked link) 
 asked_calm link old new calm = record { none = calm.none; going = calm.going; happens = record { answered = calm.happens.answered; net_events = λ h. asked_events link calm.happens.answered old.net new.net (calm.happens.net_events h) } }
 
 -- the look changes neither the channel nor what stands beside it
-pub seen_channel : (b : Bool) (v : SessionValue) → (left_if b v).channel ≡ v.channel
-seen_channel true v = refl
-seen_channel false v = refl
-
-pub seen_net : (b : Bool) (v : SessionValue) → (left_if b v).net ≡ v.net
-seen_net true v = refl
-seen_net false v = refl
+pub calm_left : (link : Link) (left : Bool) (old : SessionValue) → Calm link old (left_if left old)
+calm_left link true old = calm_beside link old (left_if true old) refl refl
+calm_left link false old = calm_same link old old refl
 
 pub calm_seen : (link : Link) (mark : Option End) (old : SessionValue) → Calm link old (as_seen mark old)
-calm_seen link mark old = calm_beside link old (as_seen mark old) (seen_channel _ old) (seen_net _ old)
+calm_seen link mark old = calm_left link (watches mark old && found mark) old

@@ -29,16 +29,15 @@ use Rattle.ftp_dialogue.specs.declared.model.PlayState.{PlayState}
 use Rattle.ftp_dialogue.specs.declared.state.State.{State}
 use Rattle.ftp_dialogue.specs.Coding.{Coding}
 use Rattle.ftp_dialogue.specs.NetEvents.{outcomes_of}
-use Rattle.ftp_dialogue.specs.Dialogue.{Expected, Tree, Say, Hear, Look, Ask, Build, Secure, Move, Leaf, concluded, dialogue, expecting, later}
+use Rattle.ftp_dialogue.specs.Dialogue.{Expected, Tree, Say, Hear, Leaf, concluded, dialogue, expecting, later}
 use Rattle.ftp_dialogue.specs.Link.{Link, unasked}
 use Rattle.ftp_dialogue.specs.Play.{Refusal, Taken, Lacking, Failing, heard_then, is_unit, play, refused_if_failed, taken}
-use Rattle.ftp_dialogue.specs.Promises.{Aborts, Completes, DrainsIf, IsPlayed, IsRefused, IsSilent, IsSuccess, IsWithheld, LeavesIf, MakesAfter, Plays, PlaysAlone, Refuses, Wired, begun_by, due_of, lacks_of, refusal_of, play_state}
+use Rattle.ftp_dialogue.specs.Promises.{Aborts, Completes, DrainsIf, IsPlayed, IsRefused, IsSilent, IsSuccess, IsWithheld, LeavesIf, MakesAfter, Plays, PlaysAlone, Refuses, begun_by, due_of, lacks_of, refusal_of, play_state}
 use Rattle.ftp_dialogue.specs.Sound.{none_left, some_live}
 use Rattle.ftp_dialogue.specs.State.{SessionValue, LetsGo}
 use Rattle.ftp_dialogue.proofs.Hearing.{play-Hear}
 use Rattle.ftp_dialogue.proofs.Moving.{play-Leaf, play-Refused, play-Say}
 use Rattle.ftp_dialogue.proofs.TransitionsLemmas.{begun_plain}
-use Rattle.ftp_dialogue.proofs.Wired.{wired}
 use Rattle.ftp_session.specs.Commands.{Converses, FollowsIf, HasFailedBefore, MakesCommand, MakesTree, OnWire, PlaysBy, SucceedsOnWire, is_reply_due, line_sent}
 use Rattle.ftp_session.specs.Handed.{PlaysSeen, as_seen}
 use Rattle.ftp_session.specs.Trees.{drain_reply, drain_tree}
@@ -129,12 +128,8 @@ on_wire : (tree : Tree) (answer : Answer) (s t : PlayState) → StopsAtFaults tr
 on_wire (Say (Ok line) next) answer s t stops success is = (line, refl, on_wire next answer (line_sent line s) t stops success (sym (play-Say Any line next s) ∙ is))
 on_wire (Say (Err cause) next) answer s t stops success is = absurd (no_success (fault.ConnectionError cause) answer s t (sym (play-Refused Any cause next s) ∙ is) success)
 on_wire (Hear expected next) answer s t stops success is = heard_on_wire expected next answer s t stops.0 success (λ reply u done. on_wire (next (Ok reply)) answer u t (stops.1 reply) success done) is
-on_wire (Look end next) answer s t stops success is = tt
-on_wire (Ask request next) answer s t stops success is = tt
-on_wire (Build address next) answer s t stops success is = tt
-on_wire (Secure next) answer s t stops success is = tt
-on_wire (Move movement next) answer s t stops success is = tt
 on_wire (Leaf answer' state) answer s t stops success is = ends_silent answer' answer state s t is
+on_wire other answer s t stops success is = tt
 
 completes_on_wire : (link : Link) (tree : Tree) (answer : Answer) (old last new : SessionValue) → LetsGo link.tells last new → StopsAtFaults tree → IsSuccess answer → Completes link tree answer old last → SucceedsOnWire link tree old new
 completes_on_wire link tree answer old last new lets_go stops success done = record {
@@ -168,30 +163,29 @@ succeeds_on_wire link tree old new answer stops made success = go made
     go (inr (inl converses)) = ends converses.last converses.lets_go converses.plays
     go (inr (inr withheld)) = absurd (fault_is_none fault.OutOfMemory withheld.is)
 
-makes_command : (link : Link) (coding : Coding) (call : Call) (tree : State → Tree) (old new : SessionValue) (answer : Answer) → IsCommand coding call tree → PlaysAlone link coding call old new answer → MakesCommand link tree old new answer
-makes_command link coding call tree old new answer is alone = record {
-  wired = succeeds_on_wire link (tree old.state) old new answer (is.stops old.state) (made alone.made);
-  makes = record { made = made alone.made; fails = alone.fails };
-}
+-- by the tree of its dialogue
+alone_tree : (link : Link) (coding : Coding) (call : Call) (tree : State → Tree) (old new : SessionValue) (answer : Answer) → refusal_of call old ≡ refused_if_failed false old.channel.failed → finishes call ≡ false → begun_by call old ≡ old → dialogue coding call old.state ≡ tree old.state → PlaysAlone link coding call old new answer → MakesTree link (tree old.state) old new answer
+alone_tree link coding call tree old new answer why goes_on begins same alone = record { made = made alone.made; fails = alone.fails }
   where
     made : IsRefused link.tells call old new answer ⊎ IsPlayed link coding call old new answer ⊎ IsWithheld old new answer → HasFailedBefore old new answer ⊎ Converses link (tree old.state) old new answer ⊎ IsWithheld old new answer
-    made (inl refused) = inl (failed_before link.tells call old new answer (refusal_is call old is.sort.1 is.sort.2) is.sort.3 refused)
-    made (inr (inl played)) = inr (inl (converses link coding call tree old new answer (refusal_is call old is.sort.1 is.sort.2) (begun_plain call old is.sort.0 is.sort.3) (is.same old.state) played))
+    made (inl refused) = inl (failed_before link.tells call old new answer why goes_on refused)
+    made (inr (inl played)) = inr (inl (converses link coding call tree old new answer why begins same played))
     made (inr (inr withheld)) = inr (inr withheld)
+
+makes_command : (link : Link) (coding : Coding) (call : Call) (tree : State → Tree) (old new : SessionValue) (answer : Answer) → IsCommand coding call tree → PlaysAlone link coding call old new answer → MakesCommand link tree old new answer
+makes_command link coding call tree old new answer is alone =
+    let makes = alone_tree link coding call tree old new answer (refusal_is call old is.sort.1 is.sort.2) is.sort.3 (begun_plain call old is.sort.0 is.sort.3) (is.same old.state) alone in
+    record { wired = succeeds_on_wire link (tree old.state) old new answer (is.stops old.state) makes.made; makes = makes }
 
 -- the last reply of a transfer that was left
 drain_replies : (coding : Coding) (state : State) (l : State → Tree) (heard : Result Response FtpError) → concluded coding Drains state l heard ≡ drain_reply state heard
 drain_replies coding state l (Ok reply) = refl
 drain_replies coding state l (Err fault) = refl
 
-drain_is : (coding : Coding) (state : State) → dialogue coding Drain state ≡ drain_tree state
+pub drain_is : (coding : Coding) (state : State) → dialogue coding Drain state ≡ drain_tree state
 drain_is coding state = ap (λ next. Hear (expecting (ClosingDataConnection ∷ RequestedFileActionOk ∷ [])) next) (λ i r. drain_replies coding state (later coding Drain First) r i)
 
 -- it is due only where the session hasn't failed, and a transfer was left
-due_going : (failed none : Bool) → not (failed || none) ≡ true → failed ≡ false
-due_going true none due = let clash : false ≡ true = due in cc
-due_going false none due = refl
-
 due_left : (failed none : Bool) → not (failed || none) ≡ true → none ≡ false
 due_left true none due = let clash : false ≡ true = due in cc
 due_left false true due = let clash : false ≡ true = due in cc
@@ -203,19 +197,11 @@ drain_taken v due =
     let F : Bool → Refusal = λ b. cond b Lacking (refused_if_failed false v.channel.failed) in
     ap F (due_left v.channel.failed (none_left v.state.counts.owed) due)
 
-pub drains_alone : (link : Link) (coding : Coding) (old new : SessionValue) (answer : Answer) → is_reply_due old ≡ true → PlaysAlone link coding Drain old new answer → MakesTree link (drain_tree old.state) old new answer
-drains_alone link coding old new answer due alone = record { made = made alone.made; fails = alone.fails }
-  where
-    why : refusal_of Drain old ≡ Taken
-    why = drain_taken old due ∙ ap (refused_if_failed false) (due_going old.channel.failed (none_left old.state.counts.owed) due)
-
-    made : IsRefused link.tells Drain old new answer ⊎ IsPlayed link coding Drain old new answer ⊎ IsWithheld old new answer → HasFailedBefore old new answer ⊎ Converses link (drain_tree old.state) old new answer ⊎ IsWithheld old new answer
-    made (inl refused) = let P : Refusal → Type 0 = λ r. Refuses r link.tells Drain old new answer in absurd (subst P why refused)
-    made (inr (inl played)) = inr (inl (converses link coding Drain drain_tree old new answer (drain_taken old due) refl (drain_is coding old.state) played))
-    made (inr (inr withheld)) = inr (inr withheld)
+drains_alone : (link : Link) (coding : Coding) (old new : SessionValue) (answer : Answer) → is_reply_due old ≡ true → PlaysAlone link coding Drain old new answer → MakesTree link (drain_tree old.state) old new answer
+drains_alone link coding old new answer due alone = alone_tree link coding Drain drain_tree old new answer (drain_taken old due) refl refl (drain_is coding old.state) alone
 
 -- a command, after that reply where it is due
-pub due_is : (call : Call) (v : SessionValue) → drains_first call ≡ true → due_of call v ≡ is_reply_due v
+due_is : (call : Call) (v : SessionValue) → drains_first call ≡ true → due_of call v ≡ is_reply_due v
 due_is call v follows =
     ap (λ d. cond (v.channel.failed || none_left v.state.counts.owed) false d) follows ∙ turned (v.channel.failed || none_left v.state.counts.owed)
   where
@@ -270,69 +256,3 @@ plays_command link coding call plain tree mark after old new answer is read seen
     follows v w a plays =
         let P : Bool → Type 0 = λ b. DrainsIf b (PlaysAlone link coding) call v w a in
         go v w a (is_reply_due v) refl (subst P (due_is call v is.sort.4) plays.makes)
-
--- The other way: a method's clause says all that its call's says
-
-refused_as : (tells : Type 0) (call : Call) (old new : SessionValue) (answer : Answer) → refusal_of call old ≡ refused_if_failed false old.channel.failed → finishes call ≡ false → HasFailedBefore old new answer → IsRefused tells call old new answer
-refused_as tells call old new answer why goes_on failed =
-    let P : Refusal → Type 0 = λ r. Refuses r tells call old new answer in
-    let Q : Bool → Type 0 = λ f. LeavesIf f tells old new in
-    subst P (sym (why ∙ ap (refused_if_failed false) failed.failed)) (failed.is, subst Q (sym goes_on) failed.unchanged)
-
-played_as : (link : Link) (coding : Coding) (call : Call) (tree : State → Tree) (old new : SessionValue) (answer : Answer) → refusal_of call old ≡ refused_if_failed false old.channel.failed → is_local call ≡ false → begun_by call old ≡ old → dialogue coding call old.state ≡ tree old.state → Converses link (tree old.state) old new answer → IsPlayed link coding call old new answer
-played_as link coding call tree old new answer why abroad begins same converses =
-    let T : Tree → SessionValue → Type 0 = λ t v. Completes link t answer v converses.last ⊎ Aborts link false t answer v converses.last in
-    let P : SessionValue → Type 0 = λ v. T (dialogue coding call old.state) v in
-    let Q : Tree → Type 0 = λ t. T t old in
-    record {
-      going = why ∙ ap (refused_if_failed false) converses.going;
-      apart = λ local. (let clash : true ≡ false = sym local ∙ abroad in cc);
-      last = converses.last;
-      plays = subst P (sym begins) (subst Q (sym same) converses.plays);
-      lets_go = converses.lets_go;
-    }
-
-alone_as : (link : Link) (coding : Coding) (call : Call) (tree : State → Tree) (old new : SessionValue) (answer : Answer) → refusal_of call old ≡ refused_if_failed false old.channel.failed → is_local call ≡ false → finishes call ≡ false → begun_by call old ≡ old → dialogue coding call old.state ≡ tree old.state → MakesTree link (tree old.state) old new answer → PlaysAlone link coding call old new answer
-alone_as link coding call tree old new answer why abroad goes_on begins same makes = record { wired = λ success. wired_by success (made makes.made); made = made makes.made; fails = makes.fails }
-  where
-    made : HasFailedBefore old new answer ⊎ Converses link (tree old.state) old new answer ⊎ IsWithheld old new answer → IsRefused link.tells call old new answer ⊎ IsPlayed link coding call old new answer ⊎ IsWithheld old new answer
-    made (inl failed) = inl (refused_as link.tells call old new answer why goes_on failed)
-    made (inr (inl converses)) = inr (inl (played_as link coding call tree old new answer why abroad begins same converses))
-    made (inr (inr withheld)) = inr (inr withheld)
-
-    fault_is_none : (fault : FtpError) → IsSuccess answer → answer ≡ Fault fault → ⊥
-    fault_is_none fault success is = let P : Answer → Type 0 = IsSuccess in subst P is success
-
-    ends : IsSuccess answer → (last : SessionValue) → LetsGo link.tells last new → Completes link (dialogue coding call old.state) answer (begun_by call old) last ⊎ Aborts link false (dialogue coding call old.state) answer (begun_by call old) last → Wired link coding call old new
-    ends success last lets_go (inl done) = wired link coding call old last new lets_go answer done success
-    ends success last lets_go (inr aborts) = absurd (fault_is_none aborts.fault success aborts.is)
-
-    wired_by : IsSuccess answer → IsRefused link.tells call old new answer ⊎ IsPlayed link coding call old new answer ⊎ IsWithheld old new answer → Wired link coding call old new
-    wired_by success (inl refused) = absurd (fault_is_none fault.SessionFailed success (failed_before link.tells call old new answer why goes_on refused).is)
-    wired_by success (inr (inl played)) = ends success played.last played.lets_go played.plays
-    wired_by success (inr (inr withheld)) = absurd (fault_is_none fault.OutOfMemory success withheld.is)
-
-pub plays_seen : (link : Link) (coding : Coding) (call : Call) (plain : Bool) (tree : State → Tree) (mark after : Option End) (old new : SessionValue) (answer : Answer) → IsCommand coding call tree → is_read call ≡ plain → PlaysBy plain link tree mark after old new answer → PlaysSeen link coding call mark after old new answer
-plays_seen link coding call plain tree mark after old new answer is read plays =
-    let v = as_seen after old in
-    let M : SessionValue → SessionValue → Answer → Type 0 = λ v w a. FollowsIf (is_reply_due v) link tree v w a in
-    let B : Bool → Type 0 = λ b. InStepIf b (unasked link) (is_plain_read call) (drains call) (Plays link coding call) v new answer in
-    let P : Bool → Type 0 = λ p. InStepIf (is_late v) (unasked link) p (drains call) (Plays link coding call) v new answer in
-    let D : Bool → Type 0 = λ d. InStepIf (is_late v) (unasked link) plain d (Plays link coding call) v new answer in
-    record { looks = plays.looks; plays = record { plays = subst B (sym (behind_is call v is.sort)) (subst P (sym (plain_is call plain read is.sort.5)) (subst D (sym is.sort.5) (step_map (is_late v) (unasked link) plain false M (Plays link coding call) v new answer plays_as plays.plays))) } }
-  where
-    alone : (v w : SessionValue) (a : Answer) → MakesCommand link tree v w a → PlaysAlone link coding call v w a
-    alone v w a command = alone_as link coding call tree v w a (refusal_is call v is.sort.1 is.sort.2) is.sort.1 is.sort.3 (begun_plain call v is.sort.0 is.sort.3) (is.same v.state) command.makes
-
-    goes : (b : Bool) (first : Answer) (middle w : SessionValue) (a : Answer) → MakesAfter b first (MakesCommand link tree) middle w a → MakesAfter b first (PlaysAlone link coding call) middle w a
-    goes true first middle w a command = alone middle w a command
-    goes false first middle w a stops = stops
-
-    go : (v w : SessionValue) (a : Answer) (b : Bool) → is_reply_due v ≡ b → FollowsIf b link tree v w a → DrainsIf b (PlaysAlone link coding) call v w a
-    go v w a true due follows = record { middle = follows.middle; first = follows.first; drains = alone_as link coding Drain drain_tree v follows.middle follows.first (drain_taken v due) refl refl refl (drain_is coding v.state) follows.drains; then_makes = goes (is_unit follows.first) follows.first follows.middle w a follows.then_makes }
-    go v w a false due command = alone v w a command
-
-    plays_as : (v w : SessionValue) (a : Answer) → FollowsIf (is_reply_due v) link tree v w a → Plays link coding call v w a
-    plays_as v w a follows =
-        let P : Bool → Type 0 = λ b. DrainsIf b (PlaysAlone link coding) call v w a in
-        record { makes = subst P (sym (due_is call v is.sort.4)) (go v w a (is_reply_due v) refl follows) }

@@ -4,7 +4,7 @@ use Rattle.std.proofs.Common.{◌≡◌, ℕ, zero, suc, Bool, true, false, cond
 use Rattle.std.specs.declared.io.ErrorKind.{ErrorKind}
 use Rattle.ftp_base.specs.Status.{code_of}
 use Rattle.ftp_base.specs.declared.command.Command.TheVariants as command
-use Rattle.ftp_base.specs.declared.status.Status.TheVariants.{NotAvailable, TransferAborted}
+use Rattle.ftp_base.specs.declared.status.Status.TheVariants.{TransferAborted}
 use Rattle.ftp_base.specs.declared.types.fault.FtpError.{FtpError}
 use Rattle.ftp_base.specs.declared.types.fault.FtpError.TheVariants as faults
 use Rattle.ftp_base.specs.declared.types.mode.Mode.TheVariants as mode
@@ -22,19 +22,20 @@ use Rattle.ftp_calls.specs.declared.call.Call.TheVariants as call
 use Rattle.ftp_calls.specs.declared.exchange.Ending.{Ending}
 use Rattle.ftp_calls.specs.declared.exchange.Ending.TheVariants as ending
 use Rattle.ftp_calls.specs.declared.exchange.Row.{Row}
-use Rattle.ftp_calls.specs.declared.exchange.Row.TheVariants.{Exchanges, Arms, Resyncs, Sets, Moves}
+use Rattle.ftp_calls.specs.declared.exchange.Row.TheVariants.{Exchanges, Resyncs, Moves}
 use Rattle.ftp_calls.specs.declared.exchange.Task.{Task}
 use Rattle.ftp_calls.specs.declared.exchange.Task.TheVariants as task
 use Rattle.ftp_calls.specs.declared.exchange.Turn.{Turn}
 use Rattle.ftp_calls.specs.declared.exchange.Turn.TheVariants.{First, Second, Passive, ExtendedPassive, Active, Restart, Closed, Aborted}
 use Rattle.ftp_dialogue.specs.Coding.{Coding}
-use Rattle.ftp_dialogue.specs.Dialogue.{Tree, Leaf, aborting, accepted, after_fault_of, answer_to_fault, breaking_off, closing, closing_data, concluded, dialogue, doing, features_answer, from_turn, last_turn, later, line_answer, most_passed_over, most_reads, negotiating, negotiating_unless, opened_answer, opened_from, passing_over, path_answer, performing, resyncing, saying, securing, seeking, size_answer, sought, strangers, time_answer, told_of_close, with_aborted, with_finished, with_left, with_transfer}
+use Rattle.ftp_dialogue.specs.Dialogue.{Tree, Leaf, aborting, accepted, after_fault_of, answer_to_fault, breaking_off, closes, closing, closing_data, concluded, dialogue, doing, features_answer, from_turn, last_turn, later, line_answer, most_passed_over, most_reads, negotiating, negotiating_unless, opened_answer, opened_from, passing_over, path_answer, performing, resyncing, saying, securing, seeking, size_answer, sought, strangers, time_answer, told_of_close, with_aborted, with_finished, with_left, with_transfer}
 use Rattle.ftp_dialogue.specs.Promises.{IsFault, answer_of}
 use Rattle.ftp_dialogue.specs.Sound.{cannot_open, some_live}
 use Rattle.ftp_dialogue.specs.Steps.Polls.{StageIn, entered_tree, is_first}
 use Rattle.ftp_dialogue.specs.Steps.Stages.{AskingOf, FetchOf, MayGive, MayPerform, OpeningOf, StageOf, TurnOf, WayOf, abort_left, asking_of, awaited, fetch_left, opened_by, remaining, resync_left, way_of}
 use Rattle.ftp_dialogue.specs.Within.{IsOfBytes, MayHear}
 use Rattle.ftp_dialogue.specs.declared.model.NetOutcome.{NetOutcome}
+use Rattle.ftp_dialogue.specs.declared.model.NetOutcome.TheVariants as came
 use Rattle.ftp_dialogue.specs.declared.stage.Aborting.{Aborting as Abort}
 use Rattle.ftp_dialogue.specs.declared.stage.Aborting.TheVariants as abort
 use Rattle.ftp_dialogue.specs.declared.stage.Asking.{Asking as Asked}
@@ -53,7 +54,7 @@ use Rattle.ftp_dialogue.specs.declared.stage.Transferring.TheVariants as fetch
 use Rattle.ftp_dialogue.specs.declared.state.State.{State}
 use Rattle.ftp_session.specs.Calls.{sends}
 use Rattle.ftp_session.specs.PollCauses.{error_of, kept_by, kept_error}
-use Rattle.ftp_session.proofs.Backed.{Backed, IsGrave, IsLight, Or, accepting_backed, carried_backed, clash, close_given, closing_fetch_backed, connecting_backed, ending_fetch_backed, gathering_backed, io, light, light_fault, line_backed, negotiating_backed, of_bytes, one_light, opening_backed, opening_data_backed, peer_backed, port_backed, restart_backed, secured_backed, securing_backed, sending_backed, storing_backed, told_backed, took_no_more}
+use Rattle.ftp_session.proofs.Backed.{Any, Backed, Fits, Or, Tells, accepting_backed, built_backed, carried_backed, clash, close_given, closing_fetch_backed, cond_backed, connecting_backed, ending_fetch_backed, gathering_backed, io, line_backed, negotiating_backed, of_bytes, opening_backed, opening_data_backed, peer_backed, port_backed, restart_backed, securing_backed, sending_backed, storing_backed, told_backed, took_no_more}
 
 -- Endings
 
@@ -76,36 +77,29 @@ NeedsRow Asks May other = Unit {0}
 abbrev stops : State → Tree
 stops state = Leaf answer.Unit state
 
--- what a text holds, or an error that needs no reason
-found_light : {A : Type 0} (told_for : Option A → Answer) → IsLight (told_for None) → ((found : A) → IsLight (told_for (Some found))) → (found : Option A) → IsLight (told_for found)
-found_light told_for none some None = none
-found_light told_for none some (Some found) = some found
-
 module _ (Asks : Type 0) (May : State → FtpError → Type 0) (coding : Coding) (state : State) where
+  -- what a text holds, or an error that needs no reason
+  found_backed : {A : Type 0} (told_for : Option A → Answer) → Fits Any (May state) (told_for None) → ((found : A) → Fits Any (May state) (told_for (Some found))) → (found : Option A) → Backed Asks May (Leaf (told_for found) state)
+  found_backed told_for none some None = none
+  found_backed told_for none some (Some found) = some found
+
   -- replies are read until that to NOOP
   sought_backed : (others : Response → Tree) → ((reply : Response) → Backed Asks May (others reply)) → (heard : Result Response FtpError) → MayHear heard → Backed Asks May (sought others state heard)
-  sought_backed others backed (Ok reply) may = λ fault same grave. cc same
+  sought_backed others backed (Ok reply) may = tt
   sought_backed others backed (Err (faults.UnexpectedResponse reply)) may = backed reply
-  sought_backed others backed (Err other) may = light_fault Asks May other state (of_bytes other may)
-
-  passed_backed : (next : Tree) → Backed Asks May next → (reply : Response) → Backed Asks May (passing_over next state reply)
-  passed_backed next backed reply = go (eqb (code_of reply.status) (code_of NotAvailable))
-    where
-      go : (b : Bool) → Backed Asks May (cond b (Leaf (Fault (faults.UnexpectedResponse reply)) state) next)
-      go true = light_fault Asks May (faults.UnexpectedResponse reply) state (λ grave. grave)
-      go false = backed
+  sought_backed others backed (Err other) may = of_bytes other may
 
   seeking_backed : (left : ℕ) → Backed Asks May (seeking left state)
   unfolding seeking
-  seeking_backed zero = (sought_backed (λ reply. Leaf (Fault (faults.UnexpectedResponse reply)) state) (λ reply. light_fault Asks May (faults.UnexpectedResponse reply) state (λ grave. grave)), λ kind same. cc same)
-  seeking_backed (suc left) = (sought_backed (passing_over (seeking left state) state) (passed_backed (seeking left state) (seeking_backed left)), λ kind same. cc same)
+  seeking_backed zero = (sought_backed (λ reply. Leaf (Fault (faults.UnexpectedResponse reply)) state) (λ reply grave. absurd grave), λ kind same. cc same)
+  seeking_backed (suc left) =
+      let next = seeking_backed left in
+      (sought_backed (passing_over (seeking left state) state) (λ reply. cond_backed Any Asks May (closes reply) (Leaf (Fault (faults.UnexpectedResponse reply)) state) (seeking left state) (λ grave. absurd grave) next), λ kind same. cc same)
 
   resyncing_backed : Backed Asks May (resyncing coding state)
-  resyncing_backed = go (some_live state.counts.owed)
-    where
-      go : (b : Bool) → Backed Asks May (cond b (Leaf (Fault faults.DataConnectionAlreadyOpen) state) (saying coding (Some command.Noop) (seeking most_passed_over state)))
-      go true = light_fault Asks May faults.DataConnectionAlreadyOpen state (λ grave. grave)
-      go false = line_backed Asks May coding (Some command.Noop) (seeking most_passed_over state) (seeking_backed most_passed_over)
+  resyncing_backed =
+      cond_backed Any Asks May (some_live state.counts.owed) (Leaf (Fault faults.DataConnectionAlreadyOpen) state) (saying coding (Some command.Noop) (seeking most_passed_over state))
+      (λ grave. absurd grave) (line_backed Any Asks May coding (Some command.Noop) (seeking most_passed_over state) (seeking_backed most_passed_over))
 
   sought_left : (seeks : Resync) → Backed Asks May (resync_left coding state seeks)
   sought_left resync.Wording = resyncing_backed
@@ -114,41 +108,28 @@ module _ (Asks : Type 0) (May : State → FtpError → Type 0) (coding : Coding)
 
   module _ (after : State → Tree) (backed : Backed Asks May (after state)) where
     accepted_backed : (how : Ending) → Needs Asks May how → (reply : Response) → Backed Asks May (accepted coding how state reply after)
-    accepted_backed ending.GivesPath needs reply = light Asks May (path_answer reply (path_of coding.decode reply.body)) state (found_light (path_answer reply) (one_light (faults.UnexpectedResponse reply) (λ grave. grave)) (λ found fault is grave. cc is) (path_of coding.decode reply.body))
-    accepted_backed ending.GivesSecondLine needs reply = light Asks May (line_answer (second_line_of coding.decode reply.body)) state (found_light line_answer (one_light faults.BadResponse (λ grave. grave)) (λ found fault is grave. cc is) (second_line_of coding.decode reply.body))
-    accepted_backed ending.GivesTime needs reply = light Asks May (time_answer (time_of reply.body)) state (found_light time_answer (one_light faults.BadResponse (λ grave. grave)) (λ found fault is grave. cc is) (time_of reply.body))
-    accepted_backed ending.GivesSize needs reply = light Asks May (size_answer (size_of reply.body)) state (found_light size_answer (one_light faults.BadResponse (λ grave. grave)) (λ found fault is grave. cc is) (size_of reply.body))
-    accepted_backed ending.GivesFeatures needs reply = light Asks May (features_answer (features_in reply.body)) state (found_light features_answer (one_light faults.BadResponse (λ grave. grave)) (λ found fault is grave. cc is) (features_in reply.body))
-    accepted_backed (ending.GoesOn status) needs reply = go (eqb (code_of reply.status) (code_of status))
-      where
-        go : (b : Bool) → Backed Asks May (cond b (after state) (stops state))
-        go true = backed
-        go false = λ fault same grave. cc same
+    accepted_backed ending.GivesPath needs reply = found_backed (path_answer reply) (λ grave. absurd grave) (λ found. tt) (path_of coding.decode reply.body)
+    accepted_backed ending.GivesSecondLine needs reply = found_backed line_answer (λ grave. absurd grave) (λ found. tt) (second_line_of coding.decode reply.body)
+    accepted_backed ending.GivesTime needs reply = found_backed time_answer (λ grave. absurd grave) (λ found. tt) (time_of reply.body)
+    accepted_backed ending.GivesSize needs reply = found_backed size_answer (λ grave. absurd grave) (λ found. tt) (size_of reply.body)
+    accepted_backed ending.GivesFeatures needs reply = found_backed features_answer (λ grave. absurd grave) (λ found. tt) (features_in reply.body)
+    accepted_backed (ending.GoesOn status) needs reply = cond_backed Any Asks May (eqb (code_of reply.status) (code_of status)) (after state) (stops state) backed tt
     accepted_backed ending.Continues needs reply = backed
-    accepted_backed ending.GivesAddress may_ask reply = told_backed Asks may_ask state May reply (after state) backed (passive_address_of reply.body)
-    accepted_backed ending.GivesPort may_ask reply = port_backed Asks may_ask state May reply (after state) backed (extended_port_of reply.body)
-    accepted_backed (ending.Opens true) may_ask reply = opening_backed Asks may_ask state May state.settings.mode (Leaf (opened_answer true reply) (with_transfer state)) (λ fault is grave. cc is)
-    accepted_backed (ending.Opens false) may_ask reply = opening_backed Asks may_ask state May state.settings.mode (Leaf (opened_answer false reply) (with_transfer state)) (λ fault is grave. cc is)
-    accepted_backed (ending.Performs (task.Fetch form)) may_ask reply = opening_backed Asks may_ask state May state.settings.mode (performing coding (task.Fetch form) state) (gathering_backed Asks may_ask most_reads May coding form [] state)
-    accepted_backed (ending.Performs (task.Store bytes)) needs reply = opening_backed Asks needs.0 state May state.settings.mode (performing coding (task.Store bytes) state) (storing_backed Asks needs.0 May needs.1 bytes state)
-    accepted_backed (ending.Finishes None) needs reply = λ fault is grave. cc is
-    accepted_backed (ending.Finishes (Some kind)) needs reply = λ fault is grave.
-        let P : FtpError → Type 0 = May (with_finished state) in
-        subst P (let e : io kind ≡ fault = cc in e) (needs (with_finished state))
-    accepted_backed ending.Stops needs reply = go (eqb (code_of reply.status) (code_of TransferAborted))
-      where
-        go : (b : Bool) → Backed Asks May (cond b (after state) (Leaf answer.Unit (with_aborted state)))
-        go true = backed
-        go false = λ fault is grave. cc is
-    accepted_backed other needs reply = λ fault is grave. cc is
+    accepted_backed ending.GivesAddress may_ask reply = told_backed Any Asks may_ask state May reply (after state) backed (passive_address_of reply.body)
+    accepted_backed ending.GivesPort may_ask reply = port_backed Any Asks may_ask state May reply (after state) backed (extended_port_of reply.body)
+    accepted_backed (ending.Opens true) may_ask reply = opening_backed Any Asks may_ask state May state.settings.mode (Leaf (opened_answer true reply) (with_transfer state)) tt
+    accepted_backed (ending.Opens false) may_ask reply = opening_backed Any Asks may_ask state May state.settings.mode (Leaf (opened_answer false reply) (with_transfer state)) tt
+    accepted_backed (ending.Performs (task.Fetch form)) may_ask reply = opening_backed Any Asks may_ask state May state.settings.mode (performing coding (task.Fetch form) state) (gathering_backed Any Asks may_ask coding form (λ all. tt) most_reads May [] state)
+    accepted_backed (ending.Performs (task.Store bytes)) needs reply = opening_backed Any Asks needs.0 state May state.settings.mode (performing coding (task.Store bytes) state) (storing_backed Asks needs.0 May needs.1 bytes state)
+    accepted_backed (ending.Finishes None) needs reply = tt
+    accepted_backed (ending.Finishes (Some kind)) needs reply = λ grave. needs (with_finished state)
+    accepted_backed ending.Stops needs reply = cond_backed Any Asks May (eqb (code_of reply.status) (code_of TransferAborted)) (after state) (Leaf answer.Unit (with_aborted state)) backed tt
+    accepted_backed other needs reply = tt
 
     faulty_backed : (how : Ending) → Needs Asks May how → (fault : FtpError) → IsOfBytes fault → Backed Asks May (Leaf (answer_to_fault how fault) (after_fault_of how fault state))
-    faulty_backed (ending.Finishes (Some kind)) needs fault bytes = λ other is grave.
-        let left : State = after_fault_of (ending.Finishes (Some kind)) fault state in
-        let P : FtpError → Type 0 = May left in
-        subst P (let e : io kind ≡ other = cc in e) (needs left)
-    faulty_backed ending.Drains needs (faults.UnexpectedResponse reply) bytes = λ fault same grave. cc same
-    faulty_backed how needs fault bytes = light_fault Asks May fault (after_fault_of how fault state) (of_bytes fault bytes)
+    faulty_backed (ending.Finishes (Some kind)) needs fault bytes = λ grave. needs (after_fault_of (ending.Finishes (Some kind)) fault state)
+    faulty_backed ending.Drains needs (faults.UnexpectedResponse reply) bytes = tt
+    faulty_backed how needs fault bytes = of_bytes fault bytes
 
     heard_backed : (how : Ending) → Needs Asks May how → (heard : Result Response FtpError) → MayHear heard → Backed Asks May (concluded coding how state after heard)
     heard_backed how needs (Ok reply) may = accepted_backed how needs reply
@@ -161,11 +142,10 @@ module _ (Asks : Type 0) (May : State → FtpError → Type 0) (coding : Coding)
     broken other kind same = cc same
 
     row_backed : (row : Row) → NeedsRow Asks May row → Backed Asks May (doing coding row state after)
-    row_backed (Exchanges exchange) needs = line_backed Asks May coding exchange.says _ (heard_backed exchange.ending needs, λ kind same left. broken exchange.ending kind same)
+    row_backed (Exchanges exchange) needs = line_backed Any Asks May coding exchange.says _ (heard_backed exchange.ending needs, λ kind same left. broken exchange.ending kind same)
     row_backed Resyncs needs = resyncing_backed
     row_backed (Moves movement) may_ask = carried_backed Asks may_ask state May movement
-    row_backed (Arms offset) needs = λ fault same grave. cc same
-    row_backed (Sets setting) needs = λ fault same grave. cc same
+    row_backed other needs = tt
 
 -- Calls
 
@@ -227,20 +207,20 @@ module _ (Asks : Type 0) (called : Call) (may_ask : Carries called → Asks) whe
 
     module _ (coding : Coding) (state : State) where
       last_backed : Backed Asks May (last_turn coding called state)
-      last_backed = row_backed Asks May coding state stops (λ fault same grave. cc same) (row_of called Second) (own_needs May short false)
+      last_backed = row_backed Asks May coding state stops tt (row_of called Second) (own_needs May short false)
 
-      later_backed : (turn : Turn) → TurnOf called turn → Backed Asks May (later coding called turn state)
-      later_backed First of = last_backed
-      later_backed Second of = λ fault same grave. cc same
-      later_backed (Passive offset) of = restart_backed Asks (may_ask (inl of)) state May coding called last_backed offset
-      later_backed (ExtendedPassive offset) of = restart_backed Asks (may_ask (inl of)) state May coding called last_backed offset
-      later_backed (Active address offset) of = restart_backed Asks (may_ask (inl of)) state May coding called last_backed offset
-      later_backed (Restart offset) of = last_backed
-      later_backed (Closed close) of = λ fault same grave. cc same
-      later_backed Aborted of = last_backed
+      later_backed : (turn : Turn) → Backed Asks May (later coding called turn state)
+      later_backed First = last_backed
+      later_backed Second = tt
+      later_backed (Passive offset) = restart_backed Any Asks state May coding called last_backed offset
+      later_backed (ExtendedPassive offset) = restart_backed Any Asks state May coding called last_backed offset
+      later_backed (Active address offset) = restart_backed Any Asks state May coding called last_backed offset
+      later_backed (Restart offset) = last_backed
+      later_backed (Closed close) = tt
+      later_backed Aborted = last_backed
 
       turn_backed : (turn : Turn) → TurnOf called turn → ((kind : ErrorKind) → turn ≡ Closed (Some kind) → (left : State) → May left (io kind)) → Backed Asks May (from_turn coding called turn state)
-      turn_backed turn of kept = row_backed Asks May coding state (later coding called turn) (later_backed turn of) (row_of called turn) (turn_needs turn of kept)
+      turn_backed turn of kept = row_backed Asks May coding state (later coding called turn) (later_backed turn) (row_of called turn) (turn_needs turn of kept)
 
       -- a reply is awaited
       awaits_needs : (turn : Turn) → TurnOf called turn → (how : Ending) → ending_of (row_of called turn) ≡ Some how → (Carries called → (fault : FtpError) → kept_by how ≡ Some fault → (left : State) → May left fault) → Needs Asks May how
@@ -260,7 +240,7 @@ module _ (Asks : Type 0) (called : Call) (may_ask : Carries called → Asks) whe
 
       awaited_backed : (a : Awaits) → TurnOf called a.turn → ending_of (row_of called a.turn) ≡ Some a.ending → (Carries called → (fault : FtpError) → kept_by a.ending ≡ Some fault → (left : State) → May left fault) → Backed Asks May (awaited coding called state a)
       awaited_backed a of is kept =
-          (heard_backed Asks May coding state (later coding called a.turn) (later_backed a.turn of) a.ending (awaits_needs a.turn of a.ending is kept), λ kind same left. broken Asks May coding state (later coding called a.turn) (later_backed a.turn of) a.ending kind same)
+          (heard_backed Asks May coding state (later coding called a.turn) (later_backed a.turn) a.ending (awaits_needs a.turn of a.ending is kept), λ kind same left. broken Asks May coding state (later coding called a.turn) (later_backed a.turn) a.ending kind same)
 
 -- The end of a transfer, and where a call begins
 
@@ -268,20 +248,17 @@ module _ (Asks : Type 0) (called : Call) (may_ask : Carries called → Asks) (Ma
   or_short : (outcome : NetOutcome) → sends called ≡ true → (left : State) → Or Asks May outcome left took_no_more
   or_short outcome gives left = inl (short gives left)
 
-  close_is : (told : Option ErrorKind) (kind : ErrorKind) → Closed told ≡ Closed (Some kind) → told ≡ Some kind
-  close_is told kind is = cc is
-
   closing_backed : finishes called ≡ true → Backed Asks May (closing coding called state)
   closing_backed ends = λ outcome.
       let told = told_of_close state.uploads outcome in
       let leave = may_ask (inr (inr ends)) in
-      turn_backed Asks called may_ask (Or Asks May outcome) (or_short outcome) coding state (Closed told) ends (λ kind is left. inr (leave, close_given Asks leave state.uploads outcome kind (close_is told kind is)))
+      turn_backed Asks called may_ask (Or Asks May outcome) (or_short outcome) coding state (Closed told) ends (λ kind is left. inr (leave, close_given Any Asks state.uploads outcome kind (let same : told ≡ Some kind = cc in same)))
 
   breaking_backed : aborts called ≡ true → Backed Asks May (breaking_off coding called state)
   breaking_backed ends = λ outcome. turn_backed Asks called may_ask (Or Asks May outcome) (or_short outcome) coding state Aborted ends (λ kind is. cc is)
 
   aborting_backed : aborts called ≡ true → Backed Asks May (aborting coding called state)
-  aborting_backed ends = line_backed Asks May coding (Some command.Abor) (breaking_off coding called state) (breaking_backed ends)
+  aborting_backed ends = line_backed Any Asks May coding (Some command.Abor) (breaking_off coding called state) (breaking_backed ends)
 
   abort_backed : aborts called ≡ true → (how : Abort) → Backed Asks May (abort_left coding called state how)
   abort_backed ends abort.Wording = aborting_backed ends
@@ -312,10 +289,15 @@ module _ (Asks : Type 0) (called : Call) (may_ask : Carries called → Asks) (Ma
 
       go : (b : Bool) → negotiates called ≡ b → Backed Asks May (cond b opens others)
       go false is = rest (finishes called) refl
-      go true is = negotiating_backed Asks (may_ask (inl is)) (opened_from called state) May coding called (last_backed Asks called may_ask May short coding (opened_from called state)) state.settings.restart_offset
+      go true is = negotiating_backed Any Asks (may_ask (inl is)) (opened_from called state) May coding called (last_backed Asks called may_ask May short coding (opened_from called state)) state.settings.restart_offset
           (λ fault none. spent is fault (opened_from called state) none (ap (λ b. cond b opens others) is ∙ ap (λ o. negotiating_unless o coding called state.settings.restart_offset (opened_from called state)) none))
 
 -- Each stage
+
+-- an answer that is no error
+plain_fits : (Has : FtpError → Type 0) (told : Answer) → (IsFault told → ⊥) → Fits Any Has told
+plain_fits Has (Fault fault) none = absurd (none tt)
+plain_fits Has other none = tt
 
 module _ (Asks : Type 0) (called : Call) (may_ask : Carries called → Asks) (May : State → FtpError → Type 0) (gives : MayGive called Movements → (state : State) → May state took_no_more) (coding : Coding) (state : State) where
   short : sends called ≡ true → (left : State) → May left took_no_more
@@ -323,54 +305,37 @@ module _ (Asks : Type 0) (called : Call) (may_ask : Carries called → Asks) (Ma
 
   -- a data connection stands
   performed_backed : Asks → (what : Task) → MayPerform called what → Backed Asks May (performing coding what state)
-  performed_backed leave (task.Fetch form) may = gathering_backed Asks leave most_reads May coding form [] state
+  performed_backed leave (task.Fetch form) may = gathering_backed Any Asks leave coding form (λ all. tt) most_reads May [] state
   performed_backed leave (task.Store bytes) may = storing_backed Asks leave May (gives may) bytes state
 
   opened_backed : Asks → (then : Opening) → OpeningOf called then → Backed Asks May (opened_by coding then state)
-  opened_backed leave (opened.Gives told) is = λ fault same grave. absurd (is.1 (subst IsFault (sym same) tt))
+  opened_backed leave (opened.Gives told) is = plain_fits (May (with_transfer state)) told is.1
   opened_backed leave (opened.Performs what) is = performed_backed leave what is
 
   asking_backed : Asks → (turn : Turn) → Backed Asks May (later coding called turn state) → (asking : Asked) → AskingOf called asking → Backed Asks May (asking_of coding asking state (later coding called turn state))
-  asking_backed leave turn backed (asks.PeerPort port) is = peer_backed Asks leave state May port (later coding called turn state) backed
-  asking_backed leave turn backed (asks.Connection address) is = connecting_backed Asks leave state May address (later coding called turn state) backed
-  asking_backed leave turn backed (asks.Peer then) is = λ peer. accepting_backed Asks leave state May (securing (opened_by coding then state) state) (securing_backed Asks leave state May (opened_by coding then state) (opened_backed leave then is)) peer strangers
-  asking_backed leave turn backed (asks.Accepting peer left then) is = accepting_backed Asks leave state May (securing (opened_by coding then state) state) (securing_backed Asks leave state May (opened_by coding then state) (opened_backed leave then is)) peer left
-  asking_backed leave turn backed (asks.Securing then) is = secured_backed Asks leave state May (opened_by coding then state) (opened_backed leave then is)
+  asking_backed leave turn backed (asks.PeerPort port) is = peer_backed Any Asks leave state May port (later coding called turn state) backed
+  asking_backed leave turn backed (asks.Connection address) is = connecting_backed Any Asks leave state May address (later coding called turn state) backed
+  asking_backed leave turn backed (asks.Peer then) is = λ peer. accepting_backed Any Asks leave state May (securing (opened_by coding then state) state) (securing_backed Any Asks leave state May (opened_by coding then state) (opened_backed leave then is)) peer strangers
+  asking_backed leave turn backed (asks.Accepting peer left then) is = accepting_backed Any Asks leave state May (securing (opened_by coding then state) state) (securing_backed Any Asks leave state May (opened_by coding then state) (opened_backed leave then is)) peer left
+  asking_backed leave turn backed (asks.Securing then) is = built_backed Any Asks leave state May came.Secured (λ fault. refl) (opened_by coding then state) (opened_backed leave then is)
 
   way_backed : negotiates called ≡ true → (on : Way) → WayOf called on → ((fault : FtpError) → cannot_open state.counts ≡ Some fault → way_of coding called state on ≡ Leaf (Fault fault) state → May state fault) → Backed Asks May (way_of coding called state on)
-  way_backed is (way.Negotiating offset) of spent = negotiating_backed Asks (may_ask (inl is)) state May coding called (last_backed Asks called may_ask May short coding state) offset (λ fault none. spent fault none (ap (λ o. negotiating_unless o coding called offset state) none))
-  way_backed is (way.Locating offset) of spent = opening_data_backed Asks (may_ask (inl is)) state May coding called (last_backed Asks called may_ask May short coding state) offset mode.Active
-  way_backed is (way.Binding local offset) of spent = opening_data_backed Asks (may_ask (inl is)) state May coding called (last_backed Asks called may_ask May short coding state) offset mode.Active local
-  way_backed is (way.Asking turn asking) of spent = asking_backed (may_ask (inl is)) turn (later_any turn) asking of
-    where
-      -- whatever the turn was, it negotiates
-      later_any : (turn : Turn) → Backed Asks May (later coding called turn state)
-      later_any First = last_backed Asks called may_ask May short coding state
-      later_any Second = λ fault same grave. cc same
-      later_any (Passive offset) = later_backed Asks called may_ask May short coding state (Passive offset) is
-      later_any (ExtendedPassive offset) = later_backed Asks called may_ask May short coding state (ExtendedPassive offset) is
-      later_any (Active address offset) = later_backed Asks called may_ask May short coding state (Active address offset) is
-      later_any (Restart offset) = last_backed Asks called may_ask May short coding state
-      later_any (Closed close) = λ fault same grave. cc same
-      later_any Aborted = last_backed Asks called may_ask May short coding state
+  way_backed is (way.Negotiating offset) of spent = negotiating_backed Any Asks (may_ask (inl is)) state May coding called (last_backed Asks called may_ask May short coding state) offset (λ fault none. spent fault none (ap (λ o. negotiating_unless o coding called offset state) none))
+  way_backed is (way.Locating offset) of spent = opening_data_backed Any Asks (may_ask (inl is)) state May coding called (last_backed Asks called may_ask May short coding state) offset mode.Active
+  way_backed is (way.Binding local offset) of spent = opening_data_backed Any Asks (may_ask (inl is)) state May coding called (last_backed Asks called may_ask May short coding state) offset mode.Active local
+  way_backed is (way.Asking turn asking) of spent = asking_backed (may_ask (inl is)) turn (later_backed Asks called may_ask May short coding state turn) asking of
 
   -- it carries a whole file or listing
-  told_reasoned : (told : Answer) → ((fault : FtpError) → error_of told ≡ Some fault → (left : State) → May left fault) → (left : State) (fault : FtpError) → told ≡ Fault fault → IsGrave fault → May left fault
-  told_reasoned told kept = λ left fault same grave. kept fault (ap error_of same) left
+  told_reasoned : (told : Answer) → ((fault : FtpError) → error_of told ≡ Some fault → (left : State) → May left fault) → (left : State) → Fits Any (May left) told
+  told_reasoned (Fault fault) kept left = λ grave. kept fault refl left
+  told_reasoned other kept left = tt
 
-  fetches : (fetching : Fetched) → FetchOf called fetching → negotiates called ≡ true
-  fetches (fetch.Starting what) is = is.0
-  fetches (fetch.Gathering form left all) is = is.0
-  fetches (fetch.Sending left total rest) is = is.0
-  fetches (fetch.ClosingData form told) is = is.0.0
-  fetches (fetch.Ending form told) is = is.0.0
-
-  carries_backed : Asks → (fetching : Fetched) → FetchOf called fetching → ((fault : FtpError) → kept_error (Transferring fetching) ≡ Some fault → (left : State) → May left fault) → Backed Asks May (fetch_left coding state fetching)
-  carries_backed leave (fetch.Starting what) is kept = performed_backed leave what is
-  carries_backed leave (fetch.Gathering form left all) is kept = gathering_backed Asks leave left May coding form all state
-  carries_backed leave (fetch.Sending left total rest) is kept = sending_backed Asks leave left May (gives is) total rest state
-  carries_backed leave (fetch.ClosingData form told) is kept = closing_fetch_backed Asks leave May form told state (told_reasoned told kept)
-  carries_backed leave (fetch.Ending form told) is kept = ending_fetch_backed Asks leave May form told state (told_reasoned told kept)
+  carries_backed : (fetching : Fetched) → FetchOf called fetching → (Carries called → (fault : FtpError) → kept_error (Transferring fetching) ≡ Some fault → (left : State) → May left fault) → Backed Asks May (fetch_left coding state fetching)
+  carries_backed (fetch.Starting what) is kept = performed_backed (may_ask (inl is.0)) what is
+  carries_backed (fetch.Gathering form left all) is kept = gathering_backed Any Asks (may_ask (inl is.0)) coding form (λ all. tt) left May all state
+  carries_backed (fetch.Sending left total rest) is kept = sending_backed Asks (may_ask (inl is.0)) left May (gives is) total rest state
+  carries_backed (fetch.ClosingData form told) is kept = closing_fetch_backed Any Asks (may_ask (inl is.0.0)) May form told state (told_reasoned told (kept (inl is.0.0)))
+  carries_backed (fetch.Ending form told) is kept = ending_fetch_backed Any Asks May form told state (told_reasoned told (kept (inl is.0.0)))
 
   stage_backed : (stage : Stage) → StageOf called stage → (Carries called → (fault : FtpError) → kept_error stage ≡ Some fault → (left : State) → May left fault) → (negotiates called ≡ true → (fault : FtpError) → cannot_open state.counts ≡ Some fault → remaining coding called state stage ≡ Leaf (Fault fault) state → May state fault) → Backed Asks May (remaining coding called state stage)
   stage_backed (At turn) is kept spent = turn_backed Asks called may_ask May short coding state turn is reason
@@ -381,12 +346,12 @@ module _ (Asks : Type 0) (called : Call) (may_ask : Carries called → Asks) (Ma
           kept (inr (inr (subst Q at is))) (io kind) (ap (λ t. kept_error (At t)) at)
   stage_backed (Saying line a) is kept spent = awaited_backed Asks called may_ask May short coding state a is.2 is.0 kept
   stage_backed (Hearing a) is kept spent = awaited_backed Asks called may_ask May short coding state a is.2 is.0 kept
-  stage_backed (Arming turn offset) is kept spent = λ fault same grave. cc same
+  stage_backed (Arming turn offset) is kept spent = tt
   stage_backed (Resyncing turn seeks) is kept spent = sought_left Asks May coding state seeks
   stage_backed (OpeningData on) is kept spent = way_backed is.0 on is.1 (spent is.0)
   stage_backed Closing is kept spent = closing_backed Asks called may_ask May short coding state is
   stage_backed (Aborting how) is kept spent = abort_backed Asks called may_ask May short coding state is how
-  stage_backed (Transferring fetching) is kept spent = let opens = fetches fetching is in carries_backed (may_ask (inl opens)) fetching is (kept (inl opens))
+  stage_backed (Transferring fetching) is kept spent = carries_backed fetching is kept
 
   -- where a poll begins
   pub entered_backed : (stage : Stage) → StageIn (Some called) stage → (Carries called → (fault : FtpError) → kept_error stage ≡ Some fault → (left : State) → May left fault) → (negotiates called ≡ true → (fault : FtpError) (s : State) → cannot_open s.counts ≡ Some fault → entered_tree coding called stage state ≡ Leaf (Fault fault) s → May s fault) → Backed Asks May (entered_tree coding called stage state)
@@ -410,25 +375,24 @@ Never state fault = ⊥
 abbrev pub Spent : State → FtpError → Type 0
 Spent state fault = cannot_open state.counts ≡ Some fault
 
--- a call that may_ask nothing beside the control connection
-pub quiet_backed : (coding : Coding) (called : Call) → (Carries called → ⊥) → (sends called ≡ true → ⊥) → (state : State) → Backed ⊥ Never (dialogue coding called state)
-quiet_backed coding called none sends_none state = begun_backed ⊥ called none Never (λ is. absurd (sends_none is)) coding state (λ is. absurd (none (inl is)))
-
-sends_opens : (called : Call) → sends called ≡ true → negotiates called ≡ true
-sends_opens called is = (sends_whole called is).0
-
+-- a command asks for nothing beside the control connection
 pub plain_backed : (coding : Coding) (called : Call) → IsPlain called → (state : State) → Backed ⊥ Never (dialogue coding called state)
 plain_backed coding called plain state =
     let none = plain_carries called plain in
-    quiet_backed coding called none (λ is. none (inl (sends_opens called is))) state
+    begun_backed ⊥ called none Never (λ is. absurd (none (inl (sends_whole called is).0))) coding state (λ is. absurd (none (inl is)))
 
-pub drain_backed : (coding : Coding) (state : State) → Backed ⊥ Never (dialogue coding call.Drain state)
-drain_backed coding state = quiet_backed coding call.Drain drain_carries (λ is. cc is) state
+-- the last reply of a transfer that was left gives nothing, or an error
+abbrev pub IsNothing : Answer → Type 0
+IsNothing answer.Unit = Unit {0}
+IsNothing other = ⊥
+
+pub drain_backed : (Good : Answer → Type 0) → Good answer.Unit → (coding : Coding) (state : State) → Tells Good ⊥ Never (dialogue coding call.Drain state)
+drain_backed Good good coding state = (heard, λ kind same. cc same)
   where
-    drain_carries : Carries call.Drain → ⊥
-    drain_carries (inl is) = cc is
-    drain_carries (inr (inl is)) = cc is
-    drain_carries (inr (inr is)) = cc is
+    heard : (h : Result Response FtpError) → MayHear h → Tells Good ⊥ Never (concluded coding ending.Drains state (later coding call.Drain First) h)
+    heard (Ok reply) may = good
+    heard (Err (faults.UnexpectedResponse reply)) may = good
+    heard (Err fault) may = of_bytes fault may
 
 -- one that sends no bytes of its own
 pub opens_backed : (coding : Coding) (called : Call) → sends called ≡ false → (state : State) → Backed (Unit {0}) Spent (dialogue coding called state)

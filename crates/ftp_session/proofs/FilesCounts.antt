@@ -28,8 +28,8 @@ use Rattle.ftp_session.specs.Handed.{OpensOne, as_seen, with_data}
 use Rattle.ftp_transfer.specs.Saving.{EndsEarly, SaveFails, Saves, StopsAt}
 use Rattle.ftp_session.proofs.Backed.{IsGrave}
 use Rattle.ftp_session.proofs.Calm.{Calm, calm_on, calm_seen}
-use Rattle.ftp_session.proofs.Grounds.{none_then, step_calm}
-use Rattle.ftp_session.proofs.Reasons.{finish_reasons, opened_reasons}
+use Rattle.ftp_session.proofs.Grounds.{none_then}
+use Rattle.ftp_session.proofs.Reasons.{finish_reasons, opened_reasons, opening_results}
 
 -- no failure was counted, and the session hasn't failed since
 abbrev Kept : Type 0 → SessionValue → SessionValue → Type 0
@@ -127,7 +127,7 @@ module _ (opens ends : Link) (same : opens.tells → ends.tells) (coding : Codin
   -- a session that opened a transfer, with the data connection of one
   kept_beside : (direction : Direction) (between marked : Option End) (given : SessionValue) (transfer over : TransferValue) → OpensOne opens coding called direction between marked former kept (as_seen between old) given (Ok transfer) → Kept opens.tells old (with_data (Some over.told) given)
   kept_beside direction between marked given transfer over (keeps, opened) =
-      kept_to opens old opened.given (with_data (Some over.told) given) (calm_on opens old (as_seen between old) opened.given (calm_seen opens between old) (step_calm opens coding called (as_seen between old) opened.given Opened (λ fault. fault) opened.plays)) (ap (λ v. v.channel) opened.hands.new_is)
+      kept_to opens old opened.given (with_data (Some over.told) given) (calm_on opens old (as_seen between old) opened.given (calm_seen opens between old) (opening_results opens coding called sends_none (as_seen between old) opened.given Opened opened.plays).1) (ap (λ v. v.channel) opened.hands.new_is)
 
   pub upload_counts : (source source' : Option (List ℕ)) (result : Result ℕ FtpError) → Puts opens ends coding called source source' mark after former kept old new result → IfErr result (λ fault. CountsUpload opens ends coding called source source' mark former kept old new fault)
   upload_counts source source' result puts = go puts.goes_on

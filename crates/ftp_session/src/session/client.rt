@@ -218,10 +218,11 @@ impl<Tr: Network, K: Drop, E: Encoding, B: Drop> Session<Tr, K, E, B> {
         Ok(())
     }
 
-    /// The transport.
+    /// The transport, with the record of what it was asked and of the data connections that are over.
     pub fn transport(&self) -> &Tr
         ensures asked { Tr.asked result.now ≡ self.now.machine.net.asked }
         ensures ready { Tr.ready result.now ≡ self.now.machine.net.ready }
+        ensures closed { Tr.closed result.now ≡ self.now.machine.net.closed }
     {
         &self.machine.transport
     }

@@ -9,14 +9,14 @@ ghost use Rattle.std.specs.Prelude.{◌≡◌, [], ◌∷◌, option_map, true};
 ghost use Rattle.ftp_control.specs.Channel.{IsSound};
 ghost use Rattle.ftp_calls.specs.declared.call.Answer.TheVariants.{Fault};
 ghost use Rattle.ftp_calls.specs.declared.call.Call.{Call as Called};
-ghost use Rattle.ftp_calls.specs.Exchanges.{call_of, own_row};
+ghost use Rattle.ftp_calls.specs.Exchanges.{call_of};
 ghost use Rattle.ftp_session.specs.Calls.{reply_answer, unit_answer};
 ghost use Rattle.ftp_dialogue.specs.Coding.{chosen};
 ghost use Rattle.ftp_dialogue.specs.Counted.{CountsFaults};
 ghost use Rattle.ftp_dialogue.specs.Link.{blocking};
 ghost use Rattle.ftp_session.specs.Commands.{PlaysCommand, PlaysRead};
 ghost use Rattle.ftp_session.specs.Handed.{PlaysSeen};
-ghost use Rattle.ftp_session.specs.Rows.{PlaysRow};
+ghost use Rattle.ftp_session.specs.Rows.{PlaysOwn};
 ghost use Rattle.ftp_session.specs.Trees.{login_tree, read_tree, rename_tree, reply_tree, resume_tree, type_tree, unit_tree};
 ghost use Rattle.ftp_dialogue.specs.Promises.{PlaysAlone};
 ghost use Rattle.ftp_calls.specs.Kinds.{GivesNothing, GivesReply, IsPlain};
@@ -394,7 +394,7 @@ where
         ensures plays { PlaysSeen (blocking Tr.Conn.Conn) (chosen E.decoded E.encoded
             self.old.encoding.0) (call_of call.entry) self.old.mark self.new.mark self.old.machine
             self.new.machine (unit_answer result) }
-        ensures row { PlaysRow (own_row (call_of call.entry) true) (blocking Tr.Conn.Conn)
+        ensures row { PlaysOwn (call_of call.entry) (blocking Tr.Conn.Conn)
             (chosen E.decoded E.encoded self.old.encoding.0) self.old.mark self.new.mark
             self.old.machine self.new.machine (unit_answer result) }
         ensures counts { CountsFaults Tr.Conn.tells self.old.machine self.new.machine
@@ -410,7 +410,7 @@ where
         ensures plays { PlaysSeen (blocking Tr.Conn.Conn) (chosen E.decoded E.encoded
             self.old.encoding.0) (call_of call.entry) self.old.mark self.new.mark self.old.machine
             self.new.machine (reply_answer result) }
-        ensures row { PlaysRow (own_row (call_of call.entry) true) (blocking Tr.Conn.Conn)
+        ensures row { PlaysOwn (call_of call.entry) (blocking Tr.Conn.Conn)
             (chosen E.decoded E.encoded self.old.encoding.0) self.old.mark self.new.mark
             self.old.machine self.new.machine (reply_answer result) }
         ensures counts { CountsFaults Tr.Conn.tells self.old.machine self.new.machine
@@ -425,7 +425,8 @@ where
         ensures plays { (call : Called) → IsPlain call →
             PlaysSeen (blocking Tr.Conn.Conn) (chosen E.decoded E.encoded self.old.encoding.0) call
             self.old.mark self.new.mark self.old.machine self.new.machine (Fault result) }
-        ensures counts { CountsFaults Tr.Conn.tells self.old.machine self.new.machine (Fault result) }
+        ensures counts { CountsFaults Tr.Conn.tells self.old.machine self.new.machine (Fault
+            result) }
     {
         look(&mut self.machine, &mut self.mark);
         self.withheld()

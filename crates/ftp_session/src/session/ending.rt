@@ -42,7 +42,8 @@ where
             (chosen E.decoded E.encoded self.old.encoding.0) Call.Finish transfer self.old.mark
             self.new.mark self.old.machine self.new.machine (unit_answer result) }
         ensures counts { CountsFaultsBeside (blocking Tr.Conn.Conn)
-            (with_data (Some transfer.told) self.old.machine) self.new.machine (unit_answer result) }
+            (with_data (Some transfer.told) self.old.machine) self.new.machine (unit_answer
+            result) }
         ensures keeps { Keeps self.old self.new }
     {
         match take_back(self, transfer) {
@@ -67,7 +68,8 @@ where
             (chosen E.decoded E.encoded self.old.encoding.0) Call.Abort transfer self.old.mark
             self.new.mark self.old.machine self.new.machine (unit_answer result) }
         ensures counts { CountsFaultsBeside (blocking Tr.Conn.Conn)
-            (with_data (Some transfer.told) self.old.machine) self.new.machine (unit_answer result) }
+            (with_data (Some transfer.told) self.old.machine) self.new.machine (unit_answer
+            result) }
         ensures keeps { Keeps self.old self.new }
     {
         match take_back(self, transfer) {

@@ -4,16 +4,15 @@
 //! Each opens a data connection, reads it to its end, closes it, and reads the transfer's last reply, also where the data
 //! failed. The transfer is never handed out.
 
-ghost use Rattle.std.specs.Prelude.{◌≡◌, Bool, IfOk, option_map};
-ghost use Rattle.ftp_base.specs.declared.command.Command.{Command as Said};
-ghost use Rattle.ftp_calls.specs.Exchanges.{call_of, fetches as fetch_row, own_row};
+ghost use Rattle.std.specs.Prelude.{◌≡◌, false, option_map};
+ghost use Rattle.ftp_calls.specs.Exchanges.{call_of, own_row};
 ghost use Rattle.ftp_calls.specs.declared.exchange.Fetch.{Fetch};
 ghost use Rattle.ftp_calls.specs.declared.exchange.Fetch.TheVariants.{Listed, Whole};
 ghost use Rattle.ftp_dialogue.specs.Coding.{chosen};
 ghost use Rattle.ftp_dialogue.specs.Counted.{CountsFaultsBeside};
 ghost use Rattle.ftp_dialogue.specs.Link.{asking, blocking, built_by};
-ghost use Rattle.ftp_session.specs.Calls.{bytes_answer, lines_answer};
-ghost use Rattle.ftp_session.specs.Fetched.{IsFetched};
+ghost use Rattle.ftp_session.specs.Calls.{bytes_answer, lines_answer, sends};
+ghost use Rattle.ftp_session.specs.Fetched.{FetchesRow, IsFetched};
 ghost use Rattle.ftp_calls.specs.Kinds.{IsOpening};
 ghost use Rattle.ftp_session.specs.Handed.{PlaysSeen};
 ghost use Rattle.ftp_session.specs.Kept.{Keeps};
@@ -73,7 +72,7 @@ where
             (blocking Tr.Conn.Conn)) self.old.machine self.new.machine (lines_answer result) }
         ensures keeps { Keeps self.old self.new }
     {
-        lines(self.fetch(alloc, rt, BorrowedCall::List(path)))
+        self.listing(alloc, rt, BorrowedCall::List(path))
     }
 
     /// The names in a directory: `NLST` (150, 125), as `list` does.
@@ -91,7 +90,7 @@ where
             (blocking Tr.Conn.Conn)) self.old.machine self.new.machine (lines_answer result) }
         ensures keeps { Keeps self.old self.new }
     {
-        lines(self.fetch(alloc, rt, BorrowedCall::Nlst(path)))
+        self.listing(alloc, rt, BorrowedCall::Nlst(path))
     }
 
     /// The facts of a directory's files, a line each: `MLSD` (150, 125; RFC 3659, section 7), as `list` does.
@@ -109,7 +108,30 @@ where
             (blocking Tr.Conn.Conn)) self.old.machine self.new.machine (lines_answer result) }
         ensures keeps { Keeps self.old self.new }
     {
-        lines(self.fetch(alloc, rt, BorrowedCall::Mlsd(path)))
+        self.listing(alloc, rt, BorrowedCall::Mlsd(path))
+    }
+
+    /// The lines that such a call reads.
+    fn listing<R>(
+        &mut self,
+        alloc: Global,
+        rt: &R,
+        call: BorrowedCall<'_>,
+    ) -> FtpResult<Vec<String>>
+    where
+        Tr: Transport<R>,
+        requires opens { IsOpening (call_of call) }
+        requires reads { FetchesRow Listed (own_row (call_of call) false) }
+        requires gives { sends (call_of call) ≡ false }
+        ensures fetches { PlaysSeen (asking (built_by B.answers self.old.builder) ⊥
+            (blocking Tr.Conn.Conn)) (chosen E.decoded E.encoded self.old.encoding.0)
+            (call_of call.entry) self.old.mark self.new.mark self.old.machine self.new.machine
+            (lines_answer result) }
+        ensures counts { CountsFaultsBeside (asking (built_by B.answers self.old.builder) ⊥
+            (blocking Tr.Conn.Conn)) self.old.machine self.new.machine (lines_answer result) }
+        ensures keeps { Keeps self.old self.new }
+    {
+        lines(self.fetch(alloc, rt, call))
     }
 
     /// Makes a call that reads a whole data connection, after the look. Where memory runs out for the call's texts,
@@ -122,8 +144,7 @@ where
             (blocking Tr.Conn.Conn)) (chosen E.decoded E.encoded self.old.encoding.0)
             (call_of call.entry) self.old.mark self.new.mark self.old.machine self.new.machine
             result }
-        ensures fetched { (form : Fetch) (command : Said) →
-            ((first : Bool) → own_row (call_of call.entry) first ≡ fetch_row command form) →
+        ensures fetched { (form : Fetch) → FetchesRow form (own_row (call_of call.entry) false) →
             IsFetched form result }
         ensures keeps { Keeps self.old self.new }
     {

@@ -97,7 +97,8 @@ impl<Tr: Network, K: Drop, E: Encoding, B: Drop> HandsTransfers<Tr::Conn> for Se
     /// # Errors
     /// `OutOfMemory`; `SessionFailed` on a session that has failed where there is no memory.
     fn new_mark(&self, alloc: Global) -> FtpResult<NewMark>
-        ensures number { IfOk result (λ end. end.number ≡ next_number self.now.machine.state.counts) }
+        ensures number { IfOk result (λ end. end.number ≡ next_number
+            self.now.machine.state.counts) }
         ensures memory { IfErr result (λ fault. fault ≡ withheld self.now.machine) }
     {
         match mark(alloc, next_number(&self.machine)) {

@@ -54,11 +54,13 @@ where
             session.machine) (λ fault. FailsToConnectUnder (blocking Tr.Conn.Conn)
             (HandsOver Tr.Conn Tr.Conn.told Tr.gives (Tr.answers connector domain.now))
             (chosen E.decoded E.encoded None) Tr.refuses (connects_to None addresses.now)
-            faults.NoAddress (Tr.ready transport) (Tr.closed transport) (Tr.asked transport) fault) }
+            faults.NoAddress (Tr.ready transport) (Tr.closed transport) (Tr.asked transport)
+            fault) }
         ensures counts { IfErr result (λ fault. CountsConnectingUnder (blocking Tr.Conn.Conn)
             (HandsOver Tr.Conn Tr.Conn.told Tr.gives (Tr.answers connector domain.now))
             (chosen E.decoded E.encoded None) Tr.refuses (connects_to None addresses.now)
-            faults.NoAddress (Tr.ready transport) (Tr.closed transport) (Tr.asked transport) fault) }
+            faults.NoAddress (Tr.ready transport) (Tr.closed transport) (Tr.asked transport)
+            fault) }
     {
         let Ok(name) = String::from_str(alloc, domain) else {
             drop(connector);

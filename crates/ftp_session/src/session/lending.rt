@@ -39,7 +39,8 @@ impl<Tr: Network, K: Drop, E: Encoding, B: Drop> LendsMachine<Tr, E, B> for Sess
 
     /// Looks once whether the transfer that was handed out was left, as the first step of a call does.
     fn look(&mut self)
-        ensures looks { LooksIf (watches self.old.mark self.old.machine) self.old.mark self.new.mark }
+        ensures looks { LooksIf (watches self.old.mark self.old.machine) self.old.mark
+            self.new.mark }
         ensures seen { self.new.machine ≡ as_seen self.new.mark self.old.machine }
         ensures keeps { Keeps self.old self.new }
     {

@@ -6,6 +6,7 @@
 ghost use Rattle.std.specs.Prelude.{◌≡◌, IfErr, IfOk, false, is_none, not};
 ghost use Rattle.ftp_calls.specs.declared.call.Answer.TheVariants.{Fault};
 ghost use Rattle.ftp_calls.specs.Exchanges.{call_of};
+ghost use Rattle.ftp_session.specs.Calls.{sends};
 ghost use Rattle.ftp_dialogue.specs.Coding.{chosen};
 ghost use Rattle.ftp_dialogue.specs.Counted.{CountsFaultsBeside};
 ghost use Rattle.ftp_session.specs.Handed.{HandsConnection, OpensAs, OpensEither, Opens, OpensReplied, with_reply, without_reply};
@@ -53,13 +54,12 @@ where
             self.old.machine self.new.machine (Fault fault)) }
         ensures keeps { KeepsChoices self.old self.new }
     {
-        without_reply(self.open(
+        self.open_silent(
             alloc,
             rt,
             BorrowedCall::RetrAsStream(path),
-            false,
             Direction::Download,
-        ))
+        )
     }
 
     /// Opens an upload to this file: `STOR` (125, 150). The offset is used as by `retr_as_stream`.
@@ -83,13 +83,12 @@ where
             self.old.machine self.new.machine (Fault fault)) }
         ensures keeps { KeepsChoices self.old self.new }
     {
-        without_reply(self.open(
+        self.open_silent(
             alloc,
             rt,
             BorrowedCall::PutWithStream(path),
-            false,
             Direction::Upload,
-        ))
+        )
     }
 
     /// Opens an upload to the end of this file: `APPE` (125, 150). The offset is used as by `retr_as_stream`.
@@ -113,13 +112,12 @@ where
             self.old.machine self.new.machine (Fault fault)) }
         ensures keeps { KeepsChoices self.old self.new }
     {
-        without_reply(self.open(
+        self.open_silent(
             alloc,
             rt,
             BorrowedCall::AppendWithStream(path),
-            false,
             Direction::Upload,
-        ))
+        )
     }
 
     /// Opens a data connection by a caller-supplied line, whose reply's status is among the expected, and returns that
@@ -153,6 +151,30 @@ where
             true,
             Direction::Download,
         ))
+    }
+
+    /// Opens a data connection by a call whose reply is no part of its answer, and hands the transfer out.
+    fn open_silent<R>(
+        &mut self,
+        alloc: Global,
+        rt: &R,
+        call: BorrowedCall<'_>,
+        direction: Direction,
+    ) -> FtpResult<Transfer<Tr::Conn>>
+    where
+        Tr: Transport<R>,
+        requires hands { HandsConnection false (call_of call) }
+        requires gives { sends (call_of call) ≡ false }
+        ensures opens { Opens (asking (built_by B.answers self.old.builder) ⊥
+            (blocking Tr.Conn.Conn)) (chosen E.decoded E.encoded self.old.encoding.0)
+            (call_of call.entry) direction self.old.mark self.new.mark self.old.former
+            self.new.former self.old.machine self.new.machine result }
+        ensures counts { IfErr result (λ fault. CountsFaultsBeside
+            (asking (built_by B.answers self.old.builder) ⊥ (blocking Tr.Conn.Conn))
+            self.old.machine self.new.machine (Fault fault)) }
+        ensures keeps { KeepsChoices self.old self.new }
+    {
+        without_reply(self.open(alloc, rt, call, false, direction))
     }
 
     /// Opens a data connection, after the look, and hands the transfer out. Where memory runs out for the call's texts,

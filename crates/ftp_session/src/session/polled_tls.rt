@@ -51,7 +51,8 @@ where
     /// Looks at the mark of the transfer that was handed out: whether one is live, in a session that goes on. Nothing is
     /// said beside it.
     fn look_beside(&mut self) -> bool
-        ensures looks { LooksIf (watches self.old.mark self.old.machine) self.old.mark self.new.mark }
+        ensures looks { LooksIf (watches self.old.mark self.old.machine) self.old.mark
+            self.new.mark }
         ensures seen { self.new.machine ≡ as_seen self.new.mark self.old.machine }
         ensures value { result ≡ is_beside self.new.machine }
         ensures keeps { Keeps self.old self.new }

@@ -187,7 +187,8 @@ where
             self.new.machine result }
         ensures causes { CausesPoll (asking (built_by B.answers self.old.builder)
             (Tr.PollTransport.may_wait ⊎ Tr.Conn.PollConn.may_wait) (polling Tr.Conn.PollConn))
-            polled.old.call (kept_error polled.old.stage) (kept_error polled.new.stage) self.old.machine
+            polled.old.call (kept_error polled.old.stage) (kept_error polled.new.stage)
+            self.old.machine
             self.new.machine result }
         ensures keeps { Keeps self.old self.new }
     {

@@ -1,4 +1,4 @@
-use Rattle.ftp_session.proofs.ConnectingCounts.{connecting_counts, on_error}
+use Rattle.ftp_session.proofs.Connecting.{connecting_counts, on_error}
 use Rattle.ftp_session.proofs.session.client.Session.connect.Goals as goal
 
 pub returns-clause-counts : goal.returns-clause-counts

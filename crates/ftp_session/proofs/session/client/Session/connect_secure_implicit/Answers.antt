@@ -1,6 +1,5 @@
 use Rattle.std.proofs.Common.{inl, inr}
-use Rattle.ftp_session.proofs.Connecting.{is_connected, none_connects}
-use Rattle.ftp_session.proofs.ConnectingCounts.{connecting_under_counts}
+use Rattle.ftp_session.proofs.Connecting.{is_connected, none_connects, connecting_under_counts}
 use Rattle.ftp_session.proofs.session.client.Session.connect_secure_implicit.Goals as goal
 
 pub returns-in-Ok-greeted_under-clause-connects : goal.returns-in-Ok-greeted_under-clause-connects

@@ -1,6 +1,5 @@
 use Rattle.std.proofs.Common.{◌≡◌, true, false, refl}
-use Rattle.ftp_session.proofs.Connecting.{within_none, within_some}
-use Rattle.ftp_session.proofs.ConnectingCounts.{connecting_counts, on_error}
+use Rattle.ftp_session.proofs.Connecting.{within_none, within_some, connecting_counts, on_error}
 use Rattle.ftp_session.proofs.session.client.Session.connect_timeout.Goals.{then-is_zero, else-is_zero}
 use Rattle.ftp_session.proofs.session.client.Session.connect_timeout.Goals as goal
 

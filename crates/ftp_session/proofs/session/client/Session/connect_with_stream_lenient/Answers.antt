@@ -1,4 +1,4 @@
-use Rattle.ftp_session.proofs.ConnectingCounts.{greeting_counts, on_error}
+use Rattle.ftp_session.proofs.Connecting.{greeting_counts, on_error}
 use Rattle.ftp_session.proofs.session.client.Session.connect_with_stream_lenient.Goals as goal
 
 pub returns-clause-counts : goal.returns-clause-counts

@@ -1,5 +1,5 @@
 use Rattle.ftp_session.proofs.Handed.{seen_failing, seen_reads}
-use Rattle.ftp_session.proofs.PolledReads.{reads_counted}
+use Rattle.ftp_session.proofs.PollGrounds.{reads_counted}
 use Rattle.ftp_session.proofs.session.client.Session.poll_read_response_in.Goals as goal
 
 pub returns-clause-reads : goal.returns-clause-reads
