@@ -1,17 +1,16 @@
 -- What is kept once the replies that were due have been read.
-use Rattle.std.proofs.Common.{◌≡◌, ◌==◌, ℕ, zero, suc, Bool, true, false, Option, Some, None, [], Result, Ok, Err, refl, ap, sym, ◌∙◌, subst}
+use Rattle.std.proofs.Common.{◌≡◌, ℕ, zero, suc, Bool, true, false, Option, Some, None, [], Result, Ok, Err, ap, ◌∙◌, subst}
 use Rattle.futures.specs.declared.task.Poll.{Poll}
 use Rattle.futures.specs.declared.task.Poll.TheVariants.{Ready, Pending}
 use Rattle.ftp_base.specs.declared.types.reply.Response.{Response}
 use Rattle.ftp_base.specs.declared.types.fault.FtpError.{FtpError}
 use Rattle.ftp_base.specs.declared.types.fault.FtpError.TheVariants as faults
-use Rattle.ftp_dialogue.specs.CatchingUp.{After, BeginsAnew, CatchesUp, Flushes, ReadsDue, ReadsIf, ReadsOne, fault_told, is_caught_up, told_by}
+use Rattle.ftp_dialogue.specs.CatchingUp.{After, BeginsAnew, CatchesUp, Flushes, ReadsDue, ReadsIf, is_caught_up, told_by}
 use Rattle.ftp_dialogue.specs.Dialogue.{expecting}
 use Rattle.ftp_dialogue.specs.Link.{Link}
 use Rattle.ftp_dialogue.specs.Reading.{ReadsAlone, ReadsCounted, ReadsUnless}
 use Rattle.ftp_dialogue.specs.State.{SessionValue}
 use Rattle.ftp_dialogue.specs.Unanswered.{most_commands}
-use Rattle.ftp_dialogue.specs.declared.state.State.{State}
 use Rattle.ftp_dialogue.proofs.Hearing.{nothing_resumes}
 
 -- a part after which others follow

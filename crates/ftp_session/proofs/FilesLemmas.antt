@@ -1,6 +1,6 @@
 -- Lemmas on whole files, from a caller's source, or to a caller's reader or writer.
 use Rattle.std.specs.Prelude.{is_none}
-use Rattle.std.proofs.Common.{◌≡◌, ℕ, Bool, true, false, List, Option, Some, None, Result, Ok, Err, inl, inr, refl, ap, sym, ◌∙◌, subst}
+use Rattle.std.proofs.Common.{◌≡◌, ℕ, true, false, List, Option, Some, None, Result, Ok, inl, inr, ap, ◌∙◌, subst}
 use Rattle.ftp_base.specs.declared.types.fault.FtpError.{FtpError}
 use Rattle.ftp_calls.specs.declared.call.Call.{Call}
 use Rattle.ftp_transfer.specs.Mark.{End}

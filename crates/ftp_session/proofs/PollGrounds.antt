@@ -8,7 +8,7 @@ use Rattle.ftp_base.specs.declared.types.fault.ConnectionError.TheVariants as ca
 use Rattle.ftp_base.specs.declared.types.fault.FtpError.{FtpError}
 use Rattle.ftp_base.specs.declared.types.fault.FtpError.TheVariants as faults
 use Rattle.ftp_base.specs.declared.types.reply.Response.{Response}
-use Rattle.ftp_calls.specs.Exchanges.{Movements, drains, negotiates}
+use Rattle.ftp_calls.specs.Exchanges.{Movements, drains}
 use Rattle.ftp_calls.specs.Kinds.{IsPlain}
 use Rattle.ftp_calls.specs.declared.call.Answer.{Answer}
 use Rattle.ftp_calls.specs.declared.call.Answer.TheVariants.{Fault}

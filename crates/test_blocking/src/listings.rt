@@ -6,7 +6,6 @@ use ftp_base::types::{FtpResult, Response};
 use ftp_blocking::TransferStream;
 use ftp_list::Listing;
 use ftp_transport::MemoryTransport;
-use std::alloc::Global;
 use std::sync::Wait;
 use std::test::Fail;
 use std::time::Clock;

@@ -5,7 +5,7 @@
 //! happened. The contract of each names its own dialogue, a tree of `specs/Trees.antt`, and says that the method is this
 //! dialogue (`PlaysCommand`).
 
-ghost use Rattle.std.specs.Prelude.{◌≡◌, [], ◌∷◌, option_map, true};
+ghost use Rattle.std.specs.Prelude.{◌≡◌, [], ◌∷◌, option_map};
 ghost use Rattle.ftp_control.specs.Channel.{IsSound};
 ghost use Rattle.ftp_calls.specs.declared.call.Answer.TheVariants.{Fault};
 ghost use Rattle.ftp_calls.specs.declared.call.Call.{Call as Called};
