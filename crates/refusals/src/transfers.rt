@@ -176,14 +176,7 @@ where
 }
 
 /// `Session::put_file`.
-pub fn put_file<
-    Tr: Network,
-    K: Drop,
-    E: Encoding,
-    B: PassiveStreamBuilder<Tr::Conn>,
-    R,
-    S: Read,
->(
+pub fn put_file<Tr: Network, K: Drop, E: Encoding, B: PassiveStreamBuilder<Tr::Conn>, R, S: Read>(
     session: &mut Session<Tr, K, E, B>,
     alloc: Global,
     rt: &R,
