@@ -83,8 +83,8 @@ where
     /// early (RFC 959, section 4.1.3).
     ///
     /// # Errors
-    /// Those of a command and its reply: `UnexpectedResponse` with a 421 that is read, or with the eighth other reply; the
-    /// session goes on. Beside a live transfer `DataConnectionAlreadyOpen`, and nothing is sent or read.
+    /// Those of a command and its reply: `UnexpectedResponse` with a 421 or a 530 (`NOOP` before a login) that is read, or
+    /// with the eighth other reply; the session goes on. Beside a live transfer `DataConnectionAlreadyOpen`, and nothing is sent or read.
     pub fn resync<R: Wait + AllocGlobal>(&self, rt: &R) -> FtpResult<()> {
         self.session.lock(rt).resync(rt.alloc())
     }

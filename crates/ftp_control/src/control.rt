@@ -34,6 +34,7 @@ pub use channel::ControlChannel;
 pub use expected_statuses::{expected_reply, is_among};
 pub use form::{ReplyForm, form_of};
 pub use outcome::Outcome;
+pub use readiness::ask_channel;
 pub use reply_buffer::REPLY_LIMIT;
 pub use rule::ReplyRule;
 pub use wire_line::WireLine;

@@ -29,7 +29,7 @@ use Rattle.ftp_dialogue.specs.declared.stage.Step.{Step}
 use Rattle.ftp_dialogue.specs.declared.stage.Step.TheVariants.{Next, Pending, Done}
 use Rattle.ftp_dialogue.specs.declared.state.State.{State}
 use Rattle.ftp_dialogue.specs.Coding.{Coding}
-use Rattle.ftp_dialogue.specs.Dialogue.{Tree, Say, Hear, Leaf, closes, expecting, most_passed_over, passing_over, resyncing, seeking, sought}
+use Rattle.ftp_dialogue.specs.Dialogue.{Tree, Say, Hear, Leaf, ends_search, expecting, most_passed_over, passing_over, resyncing, seeking, sought}
 use Rattle.ftp_dialogue.specs.Link.{Link}
 use Rattle.ftp_dialogue.specs.Promises.{Aborts, FailsRead, Untouched, failed_from}
 use Rattle.ftp_dialogue.specs.Sound.{some_live}
@@ -76,7 +76,7 @@ seeking_is zero state = refl
 seeking_is (suc left) state = refl
 
 -- a reply that ends the search, or an error in its place, is the answer
-fault_is : (left : ℕ) (state : State) (fault : FtpError) → ((reply : Response) → fault ≡ UnexpectedResponse reply → (left ≡ 0) ⊎ (closes reply ≡ true)) → sought (others left state) state (Err fault) ≡ Leaf (Fault fault) state
+fault_is : (left : ℕ) (state : State) (fault : FtpError) → ((reply : Response) → fault ≡ UnexpectedResponse reply → (left ≡ 0) ⊎ (ends_search reply ≡ true)) → sought (others left state) state (Err fault) ≡ Leaf (Fault fault) state
 fault_is left state (ConnectionError cause) last = refl
 fault_is left state (SecureError text) last = refl
 fault_is left state BadResponse last = refl
@@ -87,7 +87,7 @@ fault_is left state SessionFailed last = refl
 fault_is zero state (UnexpectedResponse reply) last = refl
 fault_is (suc left) state (UnexpectedResponse reply) last = go (last reply refl)
   where
-    go : (suc left ≡ 0) ⊎ (closes reply ≡ true) → passing_over (seeking left state) state reply ≡ Leaf (Fault (UnexpectedResponse reply)) state
+    go : (suc left ≡ 0) ⊎ (ends_search reply ≡ true) → passing_over (seeking left state) state reply ≡ Leaf (Fault (UnexpectedResponse reply)) state
     go (inl none) = let clash : suc left ≡ 0 = none in cc
     go (inr closed) = ap (λ b. cond b (Leaf (Fault (UnexpectedResponse reply)) state) (seeking left state)) closed
 
@@ -248,13 +248,13 @@ module _ (link : Link) (coding : Coding) (call : Call) (turn : Turn) (of : (row_
         }
 
     -- it is another, and the next one is read
-    goes_on_is : (rest : ℕ) (reply : Response) (fault : FtpError) → left ≡ suc rest → fault ≡ UnexpectedResponse reply → closes reply ≡ false → next (Err fault) ≡ seeking rest old.state
+    goes_on_is : (rest : ℕ) (reply : Response) (fault : FtpError) → left ≡ suc rest → fault ≡ UnexpectedResponse reply → ends_search reply ≡ false → next (Err fault) ≡ seeking rest old.state
     goes_on_is rest reply fault more is open_still =
         ap (λ l. sought (others l old.state) old.state (Err fault)) more
         ∙ ap (λ f. sought (others (suc rest) old.state) old.state (Err f)) is
         ∙ ap (λ b. cond b (Leaf (Fault (UnexpectedResponse reply)) old.state) (seeking rest old.state)) open_still
 
-    other_advances : (rest : ℕ) (reply : Response) (fault : FtpError) (mid : SessionValue) → left ≡ suc rest → fault ≡ UnexpectedResponse reply → closes reply ≡ false → SoughtBy mid (poll.Ready (Err fault)) → Advances link tree (seeking rest old.state) old mid
+    other_advances : (rest : ℕ) (reply : Response) (fault : FtpError) (mid : SessionValue) → left ≡ suc rest → fault ≡ UnexpectedResponse reply → ends_search reply ≡ false → SoughtBy mid (poll.Ready (Err fault)) → Advances link tree (seeking rest old.state) old mid
     other_advances rest reply fault mid more is open_still (inl (moves, heard)) =
         let T : Tree → Type 0 = λ t. Moves link tree t old mid in
         record { moves = subst T (goes_on_is rest reply fault more is open_still) moves; failed = heard.goes_on reply is }
@@ -264,7 +264,7 @@ module _ (link : Link) (coding : Coding) (call : Call) (turn : Turn) (of : (row_
         go (inl fails) = let clash : UnexpectedResponse reply ≡ ConnectionError (Io fails.kind) = sym is ∙ fails.is in cc
         go (inr lacks) = let clash : UnexpectedResponse reply ≡ OutOfMemory = sym is ∙ lacks.0 in cc
 
-    other_heard : (rest : ℕ) (reply : Response) (fault : FtpError) (mid new : SessionValue) → left ≡ suc rest → fault ≡ UnexpectedResponse reply → closes reply ≡ false → SoughtBy mid (poll.Ready (Err fault)) → new ≡ after_fault true fault mid → BreaksOff link coding call (Resyncing turn (Seeking left)) (Resyncing turn (Seeking rest)) old new Next
+    other_heard : (rest : ℕ) (reply : Response) (fault : FtpError) (mid new : SessionValue) → left ≡ suc rest → fault ≡ UnexpectedResponse reply → ends_search reply ≡ false → SoughtBy mid (poll.Ready (Err fault)) → new ≡ after_fault true fault mid → BreaksOff link coding call (Resyncing turn (Seeking left)) (Resyncing turn (Seeking rest)) old new Next
     other_heard rest reply fault mid new more is open_still heard leaves =
         let same : new ≡ mid = leaves ∙ ap (λ f. after_fault true f mid) is in
         let V : SessionValue → Type 0 = λ v. Advances link tree (seeking rest old.state) old v in
@@ -297,7 +297,7 @@ module _ (link : Link) (coding : Coding) (call : Call) (turn : Turn) (of : (row_
             let same : new ≡ failed_from mid = leaves ∙ ap (λ f. after_fault true f mid) lacks.0 in
             inr (record { place = tree; at = aborts.at; leads = aborts.leads; state = aborts.state; going = aborts.going ∙ sym going; fault = OutOfMemory; is = ap Fault lacks.0; cause = inr (record { is = refl; leaves = inr (same ∙ ap failed_from lacks.1 ∙ ap (λ s. failed_from (record aborts.at { state = s })) aborts.state, inl refl) }) })
 
-    pub fault_heard : (fault : FtpError) (stage' : Stage) (mid new : SessionValue) → old.channel.failed ≡ false → ((reply : Response) → fault ≡ UnexpectedResponse reply → (left ≡ 0) ⊎ (closes reply ≡ true)) → SoughtBy mid (poll.Ready (Err fault)) → new ≡ after_fault true fault mid → BreaksOff link coding call (Resyncing turn (Seeking left)) stage' old new (Done (Fault fault))
+    pub fault_heard : (fault : FtpError) (stage' : Stage) (mid new : SessionValue) → old.channel.failed ≡ false → ((reply : Response) → fault ≡ UnexpectedResponse reply → (left ≡ 0) ⊎ (ends_search reply ≡ true)) → SoughtBy mid (poll.Ready (Err fault)) → new ≡ after_fault true fault mid → BreaksOff link coding call (Resyncing turn (Seeking left)) stage' old new (Done (Fault fault))
     fault_heard fault stage' mid new going last heard leaves =
         let P : Tree → Type 0 = λ t. Ends link t (Fault fault) old new ⊎ Aborts link true t (Fault fault) old new in
         record {

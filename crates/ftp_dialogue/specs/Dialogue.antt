@@ -1,13 +1,13 @@
 -- The dialogues of a session as trees: RFC 959, sections 5.4 and 6. A tree says, hears and asks in turn, and ends
 -- in an answer with the change of state.
-use Rattle.std.specs.Prelude.{ℕ, zero, suc, drop, length, nat_le, nat_lt, ◌++◌, ◌&&◌, Bool, true, false, List, [], ◌∷◌, ◌==◌, Option, Some, None, Result, Ok, Err, if◌then◌else◌}
+use Rattle.std.specs.Prelude.{ℕ, zero, suc, drop, length, nat_le, nat_lt, ◌++◌, ◌&&◌, ◌||◌, Bool, true, false, List, [], ◌∷◌, ◌==◌, Option, Some, None, Result, Ok, Err, if◌then◌else◌}
 use Rattle.std.specs.Net.Socket.{socket_ip, socket_port}
 use Rattle.std.specs.declared.io.ErrorKind.{ErrorKind}
 use Rattle.std.specs.declared.io.ErrorKind.TheVariants.{WriteZero}
 use Rattle.std.specs.declared.net.socket_addr.SocketAddr.{SocketAddr}
 use Rattle.std.specs.declared.net.socket_addr.SocketAddr.TheVariants.{V4, V6}
 use Rattle.ftp_base.specs.declared.status.Status.{Status}
-use Rattle.ftp_base.specs.declared.status.Status.TheVariants.{System, TransferAborted, ClosingDataConnection, CommandOk, NotAvailable, RequestedFileActionOk}
+use Rattle.ftp_base.specs.declared.status.Status.TheVariants.{System, TransferAborted, ClosingDataConnection, CommandOk, NotAvailable, NotLoggedIn, RequestedFileActionOk}
 use Rattle.ftp_base.specs.Status.{code_of}
 use Rattle.ftp_base.specs.declared.types.reply.Response.{Response}
 use Rattle.ftp_base.specs.declared.types.fault.FtpError.{FtpError}
@@ -486,12 +486,13 @@ set_to setting state = record state { settings = changed setting state.settings 
 
 -- A server that sent more replies than a dialogue reads, as after an abort: RFC 959, sections 4.2 and 4.1.3 (NOOP)
 
--- another reply than that to NOOP: the next one is read, unless the server closes the connection (421)
-abbrev pub closes : Response → Bool
-closes reply = code_of reply.status == code_of NotAvailable
+-- another reply than that to NOOP: the next one is read, unless the server closes the connection (421), or refuses NOOP
+-- itself, as some do before a login (530)
+abbrev pub ends_search : Response → Bool
+ends_search reply = code_of reply.status == code_of NotAvailable || code_of reply.status == code_of NotLoggedIn
 
 abbrev pub passing_over : Tree → State → Response → Tree
-passing_over next state reply = if closes reply then Leaf (Fault (UnexpectedResponse reply)) state else next
+passing_over next state reply = if ends_search reply then Leaf (Fault (UnexpectedResponse reply)) state else next
 
 -- the reply to NOOP was read, or another, or an error in its place
 abbrev pub sought : (Response → Tree) → State → Result Response FtpError → Tree

@@ -17,4 +17,5 @@ pub mod Sound
 pub mod State
 pub mod Steps
 pub mod Unanswered
+pub mod Waiting
 pub mod Within

@@ -1,62 +1,78 @@
 //! A task that waits for what a call waits for.
 
-ghost use Rattle.std.specs.Prelude.{◌≡◌, option_map};
+ghost use Rattle.std.specs.Prelude.{◌≡◌, ◌∷◌, []};
 ghost use Rattle.futures.specs.Task.{IsArmed, Keeps};
+ghost use Rattle.ftp_transport.specs.Registering.{AskInTurn};
+ghost use Rattle.ftp_transport.specs.Registering.Part.{Connect, Handshake, Peer};
 ghost use Rattle.ftp_transport.specs.declared.waiting.Waiting.TheVariants as waits;
+ghost use Rattle.ftp_dialogue.specs.Waiting.{and_data, waiting_parts};
 
 use super::machine::Machine;
-use ftp_transport::{TaskConn, TaskTransport, Waiting};
+use ftp_control::control::ask_channel;
+use ftp_transport::{Registrar, TaskConn, TaskTransport, Waiting};
 use futures::task::Context;
 
 impl<Tr: TaskTransport> Machine<Tr>
 where
     Tr::Conn: TaskConn,
 {
-    /// Registers the task for what the last poll waits for: on the control connection, on the data connection, for a
-    /// connect, for a TLS handshake or for a peer. Nothing of the dialogues changes.
-    pub fn poll_ready(&mut self, cx: &mut Context<'_>) -> Waiting
+    /// Has each part asked, once and in order, to register the task for what its last call waits for: the control
+    /// connection, the data connection where there is one, and the transport for a connect, a TLS handshake and a peer.
+    /// Nothing of the dialogues changes.
+    pub fn poll_ready<G: Registrar<Tr>>(
+        &mut self,
+        registrar: &mut G,
+        cx: &mut Context<'_>,
+    ) -> Waiting
+        ensures asks { AskInTurn G.asks (waiting_parts self.old) registrar.old cx.old result cx.new
+            registrar.new }
         ensures same { self.new ≡ self.old }
         ensures registered { result ≡ waits.Registered → IsArmed cx.new }
         ensures kept { Keeps cx.old cx.new }
     {
-        let control = self.channel.poll_ready(cx);
-        let data = ready_data(&mut self.data_conn, cx);
-        let connect = self.transport.poll_connect_ready(cx);
-        let handshake = self.transport.poll_secure_ready(cx);
-        let peer = ready_peer::<Tr>(&mut self.listener, cx);
-        control.or(data).or(connect).or(handshake).or(peer)
+        let control = ask_channel::<Tr, G>(&mut self.channel, registrar, cx);
+        control.or(self.ask_data(registrar, cx))
     }
 
-    /// Gives up what the transport has begun for a request that isn't made again.
-    pub fn forget_request(&mut self)
+    /// Has the data connection asked, where there is one, and then the transport.
+    fn ask_data<G: Registrar<Tr>>(&mut self, registrar: &mut G, cx: &mut Context<'_>) -> Waiting
+        ensures asks { AskInTurn G.asks
+            (and_data self.old.net.data_conn (Connect ∷ Handshake ∷ Peer ∷ [])) registrar.old cx.old
+            result cx.new registrar.new }
+        ensures same { self.new ≡ self.old }
+        ensures registered { result ≡ waits.Registered → IsArmed cx.new }
+        ensures kept { Keeps cx.old cx.new }
+    {
+        let Some(conn) = &mut self.data_conn else {
+            return self.ask_transport(registrar, cx);
+        };
+        let data = registrar.connection(conn, cx);
+        data.or(self.ask_transport(registrar, cx))
+    }
+
+    /// Has the transport asked for the connect, the TLS handshake and the peer that a request waits for.
+    fn ask_transport<G: Registrar<Tr>>(
+        &mut self,
+        registrar: &mut G,
+        cx: &mut Context<'_>,
+    ) -> Waiting
+        ensures asks { AskInTurn G.asks (Connect ∷ Handshake ∷ Peer ∷ []) registrar.old cx.old result
+            cx.new registrar.new }
+        ensures same { self.new ≡ self.old }
+        ensures registered { result ≡ waits.Registered → IsArmed cx.new }
+        ensures kept { Keeps cx.old cx.new }
+    {
+        let connect = registrar.connect(&mut self.transport, cx);
+        let handshake = registrar.handshake(&mut self.transport, cx);
+        let peer = registrar.peer(&mut self.listener, cx);
+        connect.or(handshake.or(peer))
+    }
+
+    /// Has the transport told to give up what it has begun for a request that isn't made again.
+    pub fn forget_request<G: Registrar<Tr>>(&mut self, registrar: &mut G)
+        ensures forgets { G.forgets registrar.old registrar.new }
         ensures same { self.new ≡ self.old }
     {
-        self.transport.forget();
-    }
-}
-
-/// Registers the task on the data connection, where there is one.
-fn ready_data<C: TaskConn>(conn: &mut Option<C>, cx: &mut Context<'_>) -> Waiting
-    ensures same { option_map (λ c. C.told c) conn.new ≡ option_map (λ c. C.told c) conn.old }
-    ensures registered { result ≡ waits.Registered → IsArmed cx.new }
-    ensures kept { Keeps cx.old cx.new }
-{
-    match conn {
-        Some(conn) => conn.poll_ready(cx),
-        None => Waiting::Nothing,
-    }
-}
-
-/// Registers the task for a peer, where a listener waits for one.
-fn ready_peer<Tr: TaskTransport>(
-    listener: &mut Option<Tr::Listener>,
-    cx: &mut Context<'_>,
-) -> Waiting
-    ensures registered { result ≡ waits.Registered → IsArmed cx.new }
-    ensures kept { Keeps cx.old cx.new }
-{
-    match listener {
-        Some(listener) => Tr::poll_accept_ready(listener, cx),
-        None => Waiting::Nothing,
+        registrar.forget(&mut self.transport);
     }
 }

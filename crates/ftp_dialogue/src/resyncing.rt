@@ -8,7 +8,7 @@ ghost use Rattle.ftp_base.specs.declared.command.Command.TheVariants.{Noop};
 ghost use Rattle.ftp_control.specs.Refusal.{IsRefusalOf};
 ghost use Rattle.ftp_transport.specs.Told.{EndsAsTold};
 ghost use Rattle.ftp_dialogue.specs.Coding.{Coding, coding_of};
-ghost use Rattle.ftp_dialogue.specs.Dialogue.{closes};
+ghost use Rattle.ftp_dialogue.specs.Dialogue.{ends_search};
 ghost use Rattle.ftp_dialogue.specs.Link.{asking, polling};
 ghost use Rattle.ftp_dialogue.specs.Sound.{some_live};
 ghost use Rattle.ftp_dialogue.specs.Steps.Moving.{BreaksOff};
@@ -188,7 +188,7 @@ fn follow_reply(turn: Turn, left: u64, fault: FtpError, stage: &mut Stage) -> St
 {
     match fault {
         FtpError::UnexpectedResponse(reply) => {
-            if left == 0 || closes(&reply) {
+            if left == 0 || ends_search(&reply) {
                 return Step::Done(Answer::Fault(FtpError::UnexpectedResponse(reply)));
             }
             drop(reply);
@@ -199,11 +199,12 @@ fn follow_reply(turn: Turn, left: u64, fault: FtpError, stage: &mut Stage) -> St
     }
 }
 
-/// Whether the server closes the connection by this reply (421).
-fn closes(reply: &Response) -> bool
-    ensures { result ≡ closes reply.now }
+/// Whether the server closes the connection by this reply (421), or refuses `NOOP` itself, as some do before a login (530).
+fn ends_search(reply: &Response) -> bool
+    ensures { result ≡ ends_search reply.now }
 {
-    reply.status.code() == Status::NotAvailable.code()
+    let code = reply.status.code();
+    code == Status::NotAvailable.code() || code == Status::NotLoggedIn.code()
 }
 
 /// The line of `NOOP`.

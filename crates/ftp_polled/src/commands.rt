@@ -71,8 +71,8 @@ where
     /// early. One that is dropped is to be called again (RFC 959, section 4.1.3).
     ///
     /// # Errors
-    /// Those of a command and its reply: `UnexpectedResponse` with a 421 that is read, or with the eighth other reply; the
-    /// session goes on. Beside a live transfer `DataConnectionAlreadyOpen`, and nothing is sent or read.
+    /// Those of a command and its reply: `UnexpectedResponse` with a 421 or a 530 (`NOOP` before a login) that is read, or
+    /// with the eighth other reply; the session goes on. Beside a live transfer `DataConnectionAlreadyOpen`, and nothing is sent or read.
     pub fn resync<'r, R: AllocGlobal>(&self, rt: &'r R) -> Dialogue<'r, R, Tr, K, E, B, ()> {
         self.dialogue(rt, BorrowedCall::Resync)
     }

@@ -6,7 +6,7 @@ ghost use Rattle.tokio.specs.Locks.{CanLock};
 
 use ftp_base::encoding::Encoding;
 use ftp_session::session::{DropsCalls, PolledCall, Session, WaitsInTask};
-use ftp_transport::{TaskConn, TaskTransport};
+use ftp_transport::{AsksItself, TaskConn, TaskTransport};
 use futures::Future;
 use futures::task::{Context, Poll};
 use std::alloc::{AllocError, Global};
@@ -119,7 +119,7 @@ where
     pub(crate) fn drop_call(&mut self, call: &PolledCall) {
         if let Hold::Has(session) = self {
             session.drop_call(call);
-            session.forget_request();
+            session.forget_request(&mut AsksItself);
         }
     }
 }

@@ -8,7 +8,9 @@ use ftp_secure::SecureNetwork;
 use ftp_session::session::{
     Answer, DropsCalls, PolledCall, PollsCalls, PollsTls, Session, WaitsInTask, give_up_change,
 };
-use ftp_transport::{PassiveStreamBuilder, PollConn, PollTransport, TaskConn, TaskTransport};
+use ftp_transport::{
+    AsksItself, PassiveStreamBuilder, PollConn, PollTransport, TaskConn, TaskTransport,
+};
 use futures::task::Poll;
 use std::alloc::{AllocError, Global};
 use std::mem;
@@ -326,7 +328,7 @@ impl<K: Drop> Change<K> {
         if was_begun {
             give_up_change(session);
         }
-        session.forget_request();
+        session.forget_request(&mut AsksItself);
     }
 }
 

@@ -6,7 +6,7 @@ ghost use Rattle.futures.specs.declared.task.Poll.TheVariants as poll;
 
 use ftp_base::encoding::Encoding;
 use ftp_session::session::{Session, WaitsInTask};
-use ftp_transport::{TaskConn, TaskTransport};
+use ftp_transport::{AsksItself, TaskConn, TaskTransport};
 use futures::task::{Context, Poll};
 
 /// After a poll of a session's call that waits: the task is registered for what that waits for, or asks to be polled
@@ -21,5 +21,5 @@ where
     ensures registered { IsArmed cx.new }
     ensures kept { Keeps cx.old cx.new }
 {
-    session.poll_ready(cx).wait(cx)
+    session.poll_ready(&mut AsksItself, cx).wait(cx)
 }

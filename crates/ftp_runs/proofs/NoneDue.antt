@@ -43,7 +43,7 @@ use Rattle.ftp_calls.specs.declared.exchange.Turn.{Turn}
 use Rattle.ftp_calls.specs.declared.exchange.Turn.TheVariants.{First, Second, Passive, ExtendedPassive, Active, Restart, Closed, Aborted}
 use Rattle.ftp_dialogue.specs.Coding.{Coding}
 use Rattle.ftp_dialogue.specs.NetEvents.{answers, constructed, after_request, moved, secured}
-use Rattle.ftp_dialogue.specs.Dialogue.{Here, There, Tree, Say, Hear, Look, Ask, Build, Secure, Move, Leaf, aborting, accepted, accepting, admitting, after_fault_of, at_port, breaking_off, carrying, closed_as, closing, closing_data, concluded, connecting_to, connecting_to_peer, dialogue, doing, entered, expected_of, fetch_closing_data, fetch_concluded, fetched, from_turn, gathering, last_turn, later, lets_in, listening, most_reads, moved_answer, negotiating, negotiating_unless, on_address, on_built, on_connection, on_data, on_sent, opened_answer, opened_from, opening, opening_data, passing_over, performing, restart_turn, resyncing, saying, securing, seeking, sending, sending_all, size_to_send, sought, strangers, to_address, to_port, told_of_close, too_long, unfetched, wants_memory, with_abandoned, with_aborted, with_drained, with_fetched, with_finished, with_left, with_transfer, closes, most_passed_over}
+use Rattle.ftp_dialogue.specs.Dialogue.{Here, There, Tree, Say, Hear, Look, Ask, Build, Secure, Move, Leaf, aborting, accepted, accepting, admitting, after_fault_of, at_port, breaking_off, carrying, closed_as, closing, closing_data, concluded, connecting_to, connecting_to_peer, dialogue, doing, entered, expected_of, fetch_closing_data, fetch_concluded, fetched, from_turn, gathering, last_turn, later, lets_in, listening, most_reads, moved_answer, negotiating, negotiating_unless, on_address, on_built, on_connection, on_data, on_sent, opened_answer, opened_from, opening, opening_data, passing_over, performing, restart_turn, resyncing, saying, securing, seeking, sending, sending_all, size_to_send, sought, strangers, to_address, to_port, told_of_close, too_long, unfetched, wants_memory, with_abandoned, with_aborted, with_drained, with_fetched, with_finished, with_left, with_transfer, ends_search, most_passed_over}
 use Rattle.ftp_base.specs.Ascii.{most_bytes, wire_data}
 use Rattle.ftp_dialogue.specs.Laws.{reached}
 use Rattle.ftp_dialogue.specs.Play.{Refusal, Taken, Lacking, Failing, asked_then, built_then, finally, fits, heard_then, lacks, leaving, moved_then, secured_then, play, play_call, play_unless, refusal, taken}
@@ -311,7 +311,7 @@ module _ (state : State) (even : IsEven state) where
   sought_even others stays (Err faults.SessionFailed) = even
 
   passing_even : (next : Tree) → StaysEven next → (reply : Response) → StaysEven (passing_over next state reply)
-  passing_even next stays reply = elim (closes reply) as (λ b. StaysEven (cond b (Leaf (Fault (faults.UnexpectedResponse reply)) state) next)) [
+  passing_even next stays reply = elim (ends_search reply) as (λ b. StaysEven (cond b (Leaf (Fault (faults.UnexpectedResponse reply)) state) next)) [
     | true ↦ even
     | false ↦ stays
   ]

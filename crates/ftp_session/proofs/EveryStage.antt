@@ -28,7 +28,7 @@ use Rattle.ftp_calls.specs.declared.exchange.Task.TheVariants as task
 use Rattle.ftp_calls.specs.declared.exchange.Turn.{Turn}
 use Rattle.ftp_calls.specs.declared.exchange.Turn.TheVariants.{First, Second, Passive, ExtendedPassive, Active, Restart, Closed, Aborted}
 use Rattle.ftp_dialogue.specs.Coding.{Coding}
-use Rattle.ftp_dialogue.specs.Dialogue.{Tree, Leaf, aborting, accepted, after_fault_of, answer_to_fault, breaking_off, closes, closing, closing_data, concluded, dialogue, doing, features_answer, from_turn, last_turn, later, line_answer, most_passed_over, most_reads, negotiating, negotiating_unless, opened_answer, opened_from, passing_over, path_answer, performing, resyncing, saying, securing, seeking, size_answer, sought, strangers, time_answer, told_of_close, with_aborted, with_finished, with_left, with_transfer}
+use Rattle.ftp_dialogue.specs.Dialogue.{Tree, Leaf, aborting, accepted, after_fault_of, answer_to_fault, breaking_off, ends_search, closing, closing_data, concluded, dialogue, doing, features_answer, from_turn, last_turn, later, line_answer, most_passed_over, most_reads, negotiating, negotiating_unless, opened_answer, opened_from, passing_over, path_answer, performing, resyncing, saying, securing, seeking, size_answer, sought, strangers, time_answer, told_of_close, with_aborted, with_finished, with_left, with_transfer}
 use Rattle.ftp_dialogue.specs.Promises.{IsFault, answer_of}
 use Rattle.ftp_dialogue.specs.Sound.{cannot_open, some_live}
 use Rattle.ftp_dialogue.specs.Steps.Polls.{StageIn, entered_tree, is_first}
@@ -94,7 +94,7 @@ module _ (Asks : Type 0) (May : State → FtpError → Type 0) (coding : Coding)
   seeking_backed zero = (sought_backed (λ reply. Leaf (Fault (faults.UnexpectedResponse reply)) state) (λ reply grave. absurd grave), λ kind same. cc same)
   seeking_backed (suc left) =
       let next = seeking_backed left in
-      (sought_backed (passing_over (seeking left state) state) (λ reply. cond_backed Any Asks May (closes reply) (Leaf (Fault (faults.UnexpectedResponse reply)) state) (seeking left state) (λ grave. absurd grave) next), λ kind same. cc same)
+      (sought_backed (passing_over (seeking left state) state) (λ reply. cond_backed Any Asks May (ends_search reply) (Leaf (Fault (faults.UnexpectedResponse reply)) state) (seeking left state) (λ grave. absurd grave) next), λ kind same. cc same)
 
   resyncing_backed : Backed Asks May (resyncing coding state)
   resyncing_backed =

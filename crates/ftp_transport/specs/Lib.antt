@@ -1,4 +1,5 @@
 pub mod Asking
 pub mod Memory
+pub mod Registering
 pub mod Told
 pub mod Waits

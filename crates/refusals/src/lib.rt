@@ -16,3 +16,4 @@ mod polls;
 mod resyncing;
 mod securing;
 mod transfers;
+mod waiting;

@@ -46,7 +46,7 @@ use Rattle.ftp_dialogue.specs.Promises.{IsFault}
 use Rattle.ftp_calls.specs.declared.exchange.Row.{Row}
 use Rattle.ftp_calls.specs.declared.exchange.Row.TheVariants.{Exchanges, Arms, Resyncs}
 use Rattle.ftp_calls.specs.Exchanges.{row_of, aborting_row, aborts, finishes, is_local, is_read, negotiates, next_turn, Movements, Listings, Kind, kind_of_fetch, kind_of_task, Nothing, Replies, Texts, Times, Sizes, Lists, Connections, ending_of, given_by, says_of}
-use Rattle.ftp_dialogue.specs.Dialogue.{expected_of, Tree, Say, Look, Secure, There, Leaf, armed, awaiting, aborting, breaking_off, closes, closing, later, from_turn, negotiating, listening, listening_at, connecting_to, connecting_to_peer, accepting, fetch_ending, fetch_closing_data, gathering, most_reads, on_built, performing, resyncing, securing, seeking, most_passed_over, sending, strangers, with_transfer}
+use Rattle.ftp_dialogue.specs.Dialogue.{expected_of, Tree, Say, Look, Secure, There, Leaf, armed, awaiting, aborting, breaking_off, ends_search, closing, later, from_turn, negotiating, listening, listening_at, connecting_to, connecting_to_peer, accepting, fetch_ending, fetch_closing_data, gathering, most_reads, on_built, performing, resyncing, securing, seeking, most_passed_over, sending, strangers, with_transfer}
 
 -- an exchange was made before
 abbrev pub is_later : Turn → Bool
@@ -360,7 +360,7 @@ GoesOnTo call turn stage (step.Done last) = (next_turn call turn ≡ None) × (l
 -- what follows another reply than that to NOOP, or an error in its place
 abbrev pub FollowsSought : Turn → ℕ → FtpError → Stage → Step → Type 0
 FollowsSought turn left fault stage step.Next =
-    (rest : ℕ) × (reply : Response) × (left ≡ suc rest) × (fault ≡ UnexpectedResponse reply) × (closes reply ≡ false) × (stage ≡ Resyncing turn (resync.Seeking rest))
+    (rest : ℕ) × (reply : Response) × (left ≡ suc rest) × (fault ≡ UnexpectedResponse reply) × (ends_search reply ≡ false) × (stage ≡ Resyncing turn (resync.Seeking rest))
 FollowsSought turn left fault stage step.Pending = ⊥
 FollowsSought turn left fault stage (step.Done last) =
-    (last ≡ answer.Fault fault) × ((reply : Response) → fault ≡ UnexpectedResponse reply → (left ≡ 0) ⊎ (closes reply ≡ true))
+    (last ≡ answer.Fault fault) × ((reply : Response) → fault ≡ UnexpectedResponse reply → (left ≡ 0) ⊎ (ends_search reply ≡ true))
