@@ -2,7 +2,7 @@
 
 use super::ImplFtpStream;
 use ftp_base::encoding::Encoding;
-use ftp_base::types::FtpResult;
+use ftp_base::types::{FtpResult, Mode};
 use ftp_secure::{DataStream, Secured, TlsConnector};
 use ftp_session::session::Session;
 use ftp_transport::{Conn, Network, TcpConn, TcpTransport, Transport};
@@ -56,11 +56,15 @@ where
         R: Net<Listener = TcpListener, Stream = TcpStream> + Clock + AllocGlobal,
         Tr: Transport<R>,
     {
-        Self::connect_over(rt, TcpTransport::new(), addresses)
+        let alloc = rt.alloc();
+        let transport = Tr::over_tcp(alloc, TcpTransport::new());
+        let session = Session::connect(alloc, rt, transport, addresses)?;
+        Self::new(alloc, session)
     }
 
     /// The same of an address as text, as `192.0.2.7:21`, `[2001:db8::7]:21` or `ftp.example.org:21`: a host and a port,
     /// which is 21 of most servers (RFC 959, section 5.2). A name is looked up first, and its addresses are tried in turn.
+    /// The client begins in `Mode::Automatic`.
     ///
     /// # Errors
     /// Those of `connect`; before them the error of the look-up, or `Io(InvalidInput)` where the text is no address.
@@ -70,7 +74,21 @@ where
         Tr: Transport<R>,
     {
         let addresses: Vec<SocketAddr> = address.to_socket_addrs(rt)?.collect(rt.alloc())?;
-        Self::connect(rt, &addresses)
+        Self::connect_over(rt, TcpTransport::new(), &addresses)
+    }
+
+    /// The same, where none of the client's waits for the server is longer than this, as by `connect_within`. The look-up of
+    /// a name has no limit.
+    ///
+    /// # Errors
+    /// Those of `connect_to` and of `connect_within`.
+    pub fn connect_to_within<R>(rt: &R, address: &str, limit: Duration) -> FtpResult<Self>
+    where
+        R: Net<Listener = TcpListener, Stream = TcpStream> + Clock + AllocGlobal,
+        Tr: Transport<R>,
+    {
+        let addresses: Vec<SocketAddr> = address.to_socket_addrs(rt)?.collect(rt.alloc())?;
+        Self::connect_within(rt, &addresses, limit)
     }
 
     /// The same, where replies are read leniently from the greeting on: for servers that end a reply of several lines
@@ -90,7 +108,7 @@ where
     }
 
     /// The same over the caller's transport, as one with time limits (`TcpTransport::with_limits`), which makes the data
-    /// connections, too.
+    /// connections, too. The client begins in `Mode::Automatic`.
     ///
     /// # Errors
     /// Those of `connect`; `Io(TimedOut)` where a limit passes, and `Io(InvalidInput)` where one is zero.
@@ -104,12 +122,15 @@ where
         Tr: Transport<R>,
     {
         let alloc = rt.alloc();
-        let session = Session::connect(alloc, rt, Tr::over_tcp(alloc, transport), addresses)?;
+        let transport = Tr::over_tcp(alloc, transport);
+        let mut session = Session::connect(alloc, rt, transport, addresses)?;
+        session.set_mode(Mode::Automatic);
         Self::new(alloc, session)
     }
 
     /// A client none of whose waits for the server is longer than this: to connect to one of these addresses, to read or to
-    /// write, on the control connection and on data connections, from the greeting (220) to the end of the client.
+    /// write, on the control connection and on data connections, from the greeting (220) to the end of the client. It begins
+    /// in `Mode::Automatic`.
     ///
     /// # Errors
     /// Those of `connect`; `Io(TimedOut)` where a connect or a read of the greeting takes longer; `Io(InvalidInput)` of a

@@ -36,7 +36,7 @@ where
     where
         Tr: Transport<R>,
     {
-        self.session.lock(rt).put_file(rt.alloc(), rt, path, source)
+        self.opening(rt).put_file(rt.alloc(), rt, path, source)
     }
 
     /// Uploads all of a source to the end of this file: `APPE` (125, 150; RFC 959, section 4.1.3), as `put_file`
@@ -53,9 +53,7 @@ where
     where
         Tr: Transport<R>,
     {
-        self.session
-            .lock(rt)
-            .append_file(rt.alloc(), rt, path, source)
+        self.opening(rt).append_file(rt.alloc(), rt, path, source)
     }
 
     /// Uploads all of a source to this file, as `put_file` does, and reports how far it has come.
@@ -72,8 +70,7 @@ where
     where
         Tr: Transport<R>,
     {
-        self.session
-            .lock(rt)
+        self.opening(rt)
             .put_file_with(rt.alloc(), rt, path, source, progress)
     }
 
@@ -91,8 +88,7 @@ where
     where
         Tr: Transport<R>,
     {
-        self.session
-            .lock(rt)
+        self.opening(rt)
             .append_file_with(rt.alloc(), rt, path, source, progress)
     }
 
@@ -114,8 +110,7 @@ where
     where
         Tr: Transport<R>,
     {
-        self.session
-            .lock(rt)
+        self.opening(rt)
             .write_to(rt.alloc(), rt, path, writer, progress)
     }
 
@@ -134,6 +129,6 @@ where
     where
         Tr: Transport<R>,
     {
-        self.session.lock(rt).retr(rt.alloc(), rt, path, reader)
+        self.opening(rt).retr(rt.alloc(), rt, path, reader)
     }
 }

@@ -32,7 +32,7 @@ use ftp_session::session::{NoStreamBuilder, NoTlsConnector, Session};
 use ftp_transport::{Network, TcpTransport};
 pub use holding::{Gate, hold};
 use std::alloc::Global;
-use std::sync::{Arc, Mutex};
+use std::sync::{Arc, Mutex, MutexGuard, Wait};
 pub use transfer_stream::{Direction, Transfer, TransferStream};
 
 /// A blocking FTP client: a session under a lock.
@@ -68,5 +68,13 @@ impl<Tr: Network, K: Drop, E: Encoding, B: Drop> ImplFtpStream<Tr, K, E, B> {
             Ok(session) => Ok(ImplFtpStream { session }),
             Err(_) => Err(FtpError::OutOfMemory),
         }
+    }
+
+    /// The session, before a call that opens a data connection: where the server has refused EPSV in `Mode::Automatic`, the
+    /// mode is `Passive` from now on.
+    fn opening<R: Wait>(&self, rt: &R) -> MutexGuard<'_, Session<Tr, K, E, B>> {
+        let mut session = self.session.lock(rt);
+        session.settle_mode();
+        session
     }
 }

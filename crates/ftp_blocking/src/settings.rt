@@ -9,7 +9,8 @@ use std::time::Duration;
 
 impl<Tr: Network, K: Drop, E: Encoding, B: Drop> ImplFtpStream<Tr, K, E, B> {
     /// Who opens data connections from now on, and how they are asked for (RFC 959, section 3.2; RFC 2428). A client
-    /// begins in `Passive`.
+    /// that `connect_to`, `connect_to_within`, `connect_within` or `connect_over` connected begins in `Automatic`, any other
+    /// in `Passive`. In `Automatic` EPSV is sent first; once the server has refused it over IPv4 the mode is `Passive`.
     pub fn set_mode<R: Wait>(&self, rt: &R, mode: Mode) {
         self.session.lock(rt).set_mode(mode);
     }

@@ -36,7 +36,7 @@ where
         Tr: Transport<R>,
     {
         let session = self.session.clone()?;
-        let transfer = self.session.lock(rt).retr_as_stream(rt.alloc(), rt, path)?;
+        let transfer = self.opening(rt).retr_as_stream(rt.alloc(), rt, path)?;
         Ok(TransferStream::new(transfer, session))
     }
 
@@ -54,7 +54,7 @@ where
         Tr: Transport<R>,
     {
         let session = self.session.clone()?;
-        let transfer = self.session.lock(rt).put_with_stream(rt.alloc(), rt, path)?;
+        let transfer = self.opening(rt).put_with_stream(rt.alloc(), rt, path)?;
         Ok(TransferStream::new(transfer, session))
     }
 
@@ -72,10 +72,7 @@ where
         Tr: Transport<R>,
     {
         let session = self.session.clone()?;
-        let transfer = self
-            .session
-            .lock(rt)
-            .append_with_stream(rt.alloc(), rt, path)?;
+        let transfer = self.opening(rt).append_with_stream(rt.alloc(), rt, path)?;
         Ok(TransferStream::new(transfer, session))
     }
 
@@ -95,8 +92,7 @@ where
     {
         let session = self.session.clone()?;
         let (reply, transfer) = self
-            .session
-            .lock(rt)
+            .opening(rt)
             .custom_data_command(rt.alloc(), rt, line, expected)?;
         Ok((reply, TransferStream::new(transfer, session)))
     }
@@ -110,7 +106,7 @@ where
     where
         Tr: Transport<R>,
     {
-        self.session.lock(rt).retr_as_buffer(rt.alloc(), rt, path)
+        self.opening(rt).retr_as_buffer(rt.alloc(), rt, path)
     }
 
     /// The lines of a listing of this path, or of the current directory: `LIST` (150, 125; RFC 959, section 4.1.3).
@@ -123,7 +119,7 @@ where
     where
         Tr: Transport<R>,
     {
-        self.session.lock(rt).list(rt.alloc(), rt, path)
+        self.opening(rt).list(rt.alloc(), rt, path)
     }
 
     /// The names in a directory: `NLST` (150, 125; RFC 959, section 4.1.3).
@@ -134,7 +130,7 @@ where
     where
         Tr: Transport<R>,
     {
-        self.session.lock(rt).nlst(rt.alloc(), rt, path)
+        self.opening(rt).nlst(rt.alloc(), rt, path)
     }
 
     /// The facts of a directory's files, a line each: `MLSD` (150, 125; RFC 3659, section 7). `ListParser::parse_mlsd`
@@ -146,7 +142,7 @@ where
     where
         Tr: Transport<R>,
     {
-        self.session.lock(rt).mlsd(rt.alloc(), rt, path)
+        self.opening(rt).mlsd(rt.alloc(), rt, path)
     }
 }
 

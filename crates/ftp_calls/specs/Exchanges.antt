@@ -3,7 +3,7 @@
 -- (MLST). All that a call does follows from its rows.
 use Rattle.std.specs.Prelude.{◌≡◌, refl, Bool, true, false, not, ◌&&◌, ◌||◌, nat_lt, ℕ, if◌then◌else◌, List, [], ◌∷◌, Option, Some, None, is_none, option_map}
 use Rattle.ftp_base.specs.declared.status.Status.{Status}
-use Rattle.ftp_base.specs.declared.status.Status.TheVariants.{AlreadyOpen, AboutToSend, CommandOk, System, File, Ready, Closing, ClosingDataConnection, TransferAborted, PassiveMode, ExtendedPassiveMode, LoggedIn, RequestedFileActionOk, PathCreated, NeedPassword, RequestFilePending}
+use Rattle.ftp_base.specs.declared.status.Status.TheVariants.{AlreadyOpen, AboutToSend, CommandOk, System, File, Ready, Closing, ClosingDataConnection, TransferAborted, PassiveMode, ExtendedPassiveMode, LoggedIn, RequestedFileActionOk, PathCreated, NeedPassword, RequestFilePending, BadCommand, BadArguments, NotImplemented, NotImplementedParameter, Unknown}
 use Rattle.ftp_base.specs.declared.types.file_type.FileType.{FileType}
 use Rattle.ftp_base.specs.declared.types.file_type.FileType.TheVariants.{Ascii, Ebcdic, Image, Binary, Local}
 use Rattle.ftp_base.specs.declared.command.Command.{Command}
@@ -68,6 +68,12 @@ statuses (Either one other) = one ∷ other ∷ []
 statuses (Given codes) = codes
 statuses Features = System ∷ []
 
+-- the reply to EPSV is 229; or, where PASV follows a refusal, that of a server which hasn't it: 500, 501, 502, 504, or a code
+-- that no status has, as 522: RFC 2428, section 2
+abbrev pub extended_codes : Bool → Codes
+extended_codes false = One ExtendedPassiveMode
+extended_codes true = Given (ExtendedPassiveMode ∷ BadCommand ∷ BadArguments ∷ NotImplemented ∷ NotImplementedParameter ∷ Unknown ∷ [])
+
 -- a command and its reply
 abbrev pub says : Command → Codes → Ending → Row
 says command codes ending = Exchanges (record { says = Some command; hears = codes; ending = ending })
@@ -100,7 +106,7 @@ is_draining other = false
 abbrev pub is_negotiating : Ending → Bool
 is_negotiating Continues = true
 is_negotiating GivesAddress = true
-is_negotiating GivesPort = true
+is_negotiating (GivesPort tries) = true
 is_negotiating other = false
 
 -- what a call may do by itself: it is no step of negotiation, and the end of a transfer that was left is heard alone
@@ -175,8 +181,8 @@ own_row call first = at_turn (own call) first
 abbrev pub row_of : Call → Turn → Row
 row_of call First = own_row call true
 row_of call Second = own_row call false
-row_of call (Passive offset) = says command.Pasv (One PassiveMode) GivesAddress
-row_of call (ExtendedPassive offset) = says command.Epsv (One ExtendedPassiveMode) GivesPort
+row_of call (Passive offset after) = says command.Pasv (One PassiveMode) GivesAddress
+row_of call (ExtendedPassive offset tries) = says command.Epsv (extended_codes tries) (GivesPort tries)
 row_of call (Active address offset) = says (port_command address) (One CommandOk) Continues
 row_of call (Restart offset) = says (command.Rest offset) (One RequestFilePending) Continues
 row_of call (Closed fault) = hears (Either ClosingDataConnection RequestedFileActionOk) (Finishes fault)
@@ -219,7 +225,7 @@ kind_of (SetsText text) = Nothing
 kind_of (GoesOn status) = Nothing
 kind_of Continues = Nothing
 kind_of GivesAddress = Nothing
-kind_of GivesPort = Nothing
+kind_of (GivesPort tries) = Nothing
 kind_of (Opens gives_reply) = Connections
 kind_of (Performs task) = kind_of_task task
 kind_of (Finishes fault) = Nothing
@@ -241,7 +247,7 @@ gives_reply (SetsText text) = false
 gives_reply (GoesOn status) = false
 gives_reply Continues = false
 gives_reply GivesAddress = false
-gives_reply GivesPort = false
+gives_reply (GivesPort tries) = false
 gives_reply (Opens replies) = false
 gives_reply (Performs task) = false
 gives_reply (Finishes fault) = false
@@ -327,8 +333,8 @@ restarted call offset = if restarts call && nat_lt 0 offset then Restart offset 
 abbrev pub next_turn : Call → Turn → Option Turn
 next_turn call First = Some Second
 next_turn call Second = None
-next_turn call (Passive offset) = Some (restarted call offset)
-next_turn call (ExtendedPassive offset) = Some (restarted call offset)
+next_turn call (Passive offset after) = Some (restarted call offset)
+next_turn call (ExtendedPassive offset tries) = Some (restarted call offset)
 next_turn call (Active address offset) = Some (restarted call offset)
 next_turn call (Restart offset) = Some Second
 next_turn call (Closed fault) = None

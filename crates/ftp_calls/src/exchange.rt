@@ -8,7 +8,7 @@ ghost use Rattle.ftp_calls.specs.Exchanges.{aborting_row, aborts, drains, drains
 
 use crate::active::port_command;
 use crate::call::{Call, Setting, own_row};
-use crate::row::{aborted, hears, last_reply, ok, says};
+use crate::row::{aborted, extended_codes, hears, last_reply, ok, says};
 use ftp_base::command::Command;
 use ftp_base::status::Status;
 use ftp_base::types::Items;
@@ -23,10 +23,10 @@ pub enum Turn {
     First,
     /// The one after an intermediate reply, or after negotiation.
     Second,
-    /// `PASV`: the server is asked where it listens.
-    Passive(u64),
-    /// `EPSV`: the server is asked at which port it listens.
-    ExtendedPassive(u64),
+    /// `PASV`: the server is asked where it listens; first, or once it has refused `EPSV`.
+    Passive(u64, bool),
+    /// `EPSV`: the server is asked at which port it listens; and, where that is said, by `PASV` if it refuses.
+    ExtendedPassive(u64, bool),
     /// `PORT` or `EPRT`: the server is told where the client listens.
     Active(SocketAddr, u64),
     /// `REST`: the server is told the offset.
@@ -79,8 +79,8 @@ pub enum Ending {
     Continues,
     /// The reply holds the address to connect to.
     GivesAddress,
-    /// The reply holds the port to connect to.
-    GivesPort,
+    /// The reply holds the port to connect to; or, where that is said, it may refuse `EPSV`, and `PASV` follows.
+    GivesPort(bool),
     /// The data connection carries a transfer from now on; the reply is part of the result, or isn't.
     Opens(bool),
     /// The data connection carries a whole file or listing, and the transfer comes to its end.
@@ -159,13 +159,13 @@ pub fn row_at(alloc: Global, call: &Call, turn: Turn) -> Result<Row, AllocError>
     match turn {
         Turn::First => own_row(call, true),
         Turn::Second => own_row(call, false),
-        Turn::Passive(_offset) => {
+        Turn::Passive(_offset, _after) => {
             let codes = Codes::One(Status::PassiveMode);
             Ok(says(Command::Pasv, codes, Ending::GivesAddress))
         }
-        Turn::ExtendedPassive(_offset) => {
-            let codes = Codes::One(Status::ExtendedPassiveMode);
-            Ok(says(Command::Epsv, codes, Ending::GivesPort))
+        Turn::ExtendedPassive(_offset, tries) => {
+            let codes = extended_codes(alloc, tries)?;
+            Ok(says(Command::Epsv, codes, Ending::GivesPort(tries)))
         }
         Turn::Active(address, _offset) => {
             let command = port_command(alloc, address)?;
@@ -206,8 +206,8 @@ pub fn next_turn(call: &Call, turn: Turn) -> Option<Turn>
     match turn {
         Turn::First => Some(Turn::Second),
         Turn::Second => None,
-        Turn::Passive(offset) => Some(restarted(call, offset)),
-        Turn::ExtendedPassive(offset) => Some(restarted(call, offset)),
+        Turn::Passive(offset, _after) => Some(restarted(call, offset)),
+        Turn::ExtendedPassive(offset, _tries) => Some(restarted(call, offset)),
         Turn::Active(_address, offset) => Some(restarted(call, offset)),
         Turn::Restart(_offset) => Some(Turn::Second),
         Turn::Closed(_fault) => None,
@@ -248,7 +248,7 @@ pub fn says_at(call: &Call, turn: Turn) -> bool
 {
     match turn {
         Turn::First | Turn::Second => says_own(call),
-        Turn::Passive(_) | Turn::ExtendedPassive(_) | Turn::Active(..) | Turn::Restart(_) => true,
+        Turn::Passive(..) | Turn::ExtendedPassive(..) | Turn::Active(..) | Turn::Restart(_) => true,
         Turn::Closed(_) | Turn::Aborted => false,
     }
 }

@@ -2,14 +2,14 @@
 //! calls that are longer than a line.
 
 ghost use Rattle.std.specs.Prelude.{◌≡◌, IfOk};
-ghost use Rattle.ftp_calls.specs.Exchanges.{fetches, hears, own_row, says, stores};
+ghost use Rattle.ftp_calls.specs.Exchanges.{extended_codes, fetches, hears, own_row, says, stores};
 
 use crate::call::Call;
 use crate::exchange::{Codes, Ending, Exchange, Fetch, Row, Task};
 use ftp_base::command::Command;
 use ftp_base::status::Status;
 use ftp_base::types::{FileType, Items, Text};
-use std::alloc::AllocError;
+use std::alloc::{AllocError, Global};
 use std::io::ErrorKind;
 
 /// A command and its reply.
@@ -50,7 +50,8 @@ pub(crate) fn stored_whole(command: Command, bytes: Items<u8>) -> Row
 
 /// The last reply of a transfer (226, 250), after this error of the close, if it failed.
 pub(crate) fn last_reply(fault: Option<ErrorKind>) -> Row
-    ensures { result ≡ hears (Codes.Either Status.ClosingDataConnection Status.RequestedFileActionOk)
+    ensures { result ≡ hears (Codes.Either Status.ClosingDataConnection
+        Status.RequestedFileActionOk)
         (Ending.Finishes fault) }
 {
     hears(ended(), Ending::Finishes(fault))
@@ -75,6 +76,25 @@ pub(crate) fn ended() -> Codes
     ensures { result ≡ Codes.Either Status.ClosingDataConnection Status.RequestedFileActionOk }
 {
     Codes::Either(Status::ClosingDataConnection, Status::RequestedFileActionOk)
+}
+
+/// 229; and, where `PASV` follows a refusal of `EPSV`, the codes by which a server that hasn't it refuses: 500, 501, 502,
+/// 504, and one that no other reply has, as 522 (RFC 2428, section 2).
+pub(crate) fn extended_codes(alloc: Global, tries: bool) -> Result<Codes, AllocError>
+    ensures { IfOk result (λ codes. codes ≡ extended_codes tries) }
+{
+    if !tries {
+        return Ok(Codes::One(Status::ExtendedPassiveMode));
+    }
+    let codes = vec![in alloc;
+        Status::ExtendedPassiveMode,
+        Status::BadCommand,
+        Status::BadArguments,
+        Status::NotImplemented,
+        Status::NotImplementedParameter,
+        Status::Unknown,
+    ]?;
+    Ok(Codes::Given(Items::from_vec(codes)))
 }
 
 /// 150 or 125.
@@ -150,7 +170,8 @@ pub(crate) fn transfer_type(kind: &FileType, first: bool) -> Result<Row, AllocEr
 
 /// A caller-supplied line, and what an accepted reply does.
 pub(crate) fn custom(line: &Text, codes: &Items<Status>, ending: Ending) -> Result<Row, AllocError>
-    ensures { IfOk result (λ row. row ≡ says (Command.Custom line.now) (Codes.Given codes.now) ending) }
+    ensures { IfOk result (λ row. row ≡ says (Command.Custom line.now) (Codes.Given codes.now)
+        ending) }
 {
     let codes = Codes::Given(codes.clone()?);
     Ok(says(Command::Custom(line.clone()?), codes, ending))

@@ -102,8 +102,8 @@ plain_taken call failed lacks unheld going =
 pub may_go_on : (call : Call) (stage : Stage) (v : SessionValue) → drains call ≡ false → StageOf call stage → v.channel.failed ≡ false → MayPollAt stage call v
 may_go_on call (At First) v undrained of going = plain_taken call v.channel.failed (lacks_of call v) (unheld_call call of.1 of.2 undrained) going
 may_go_on call (At Second) v undrained of going = going
-may_go_on call (At (Passive offset)) v undrained of going = going
-may_go_on call (At (ExtendedPassive offset)) v undrained of going = going
+may_go_on call (At (Passive offset after)) v undrained of going = going
+may_go_on call (At (ExtendedPassive offset tries)) v undrained of going = going
 may_go_on call (At (Active address offset)) v undrained of going = going
 may_go_on call (At (Restart offset)) v undrained of going = going
 may_go_on call (At (Closed close)) v undrained of going = going

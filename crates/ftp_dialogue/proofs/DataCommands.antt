@@ -1,12 +1,12 @@
 -- What holds of the trees of calls that open a data connection, and of all that they result in.
-use Rattle.std.proofs.Common.{◌≡◌, ℕ, zero, suc, Bool, true, false, ◌&&◌, nat_le, nat_lt, drop, length, cond, is_none, List, [], ◌∷◌, ◌++◌, Option, Some, None, Result, Ok, Err, inl, inr, refl, ap, sym, ◌∙◌, subst, append-nil, append_assoc}
+use Rattle.std.proofs.Common.{◌≡◌, ℕ, zero, suc, Bool, true, false, ◌&&◌, nat_le, nat_lt, drop, length, cond, is_none, List, [], ◌∷◌, ◌++◌, Option, Some, None, Result, Ok, Err, inl, inr, refl, ap, sym, ◌∙◌, subst, append-nil, append_assoc, ◌⊎◌, ◌==◌, not}
 use Rattle.std.specs.List.{AllByRecursion}
 use Rattle.std.proofs.lemmas.List.Elements.{All-from_recursion}
 use Rattle.std.specs.Net.Socket.{socket_ip, socket_port}
 use Rattle.std.specs.declared.net.socket_addr.SocketAddr.{SocketAddr}
 use Rattle.std.specs.declared.net.socket_addr.SocketAddr.TheVariants.{V4, V6}
 use Rattle.std.specs.declared.time.Duration.{Duration}
-use Rattle.ftp_base.specs.Status.{status_of}
+use Rattle.ftp_base.specs.Status.{status_of, code_of}
 use Rattle.ftp_base.specs.declared.command.Command.{Command}
 use Rattle.ftp_base.specs.declared.types.fault.FtpError.{FtpError}
 use Rattle.ftp_base.specs.declared.types.fault.FtpError.TheVariants.{BadResponse, ConnectionError, DataConnectionAlreadyOpen, OutOfMemory, SessionFailed}
@@ -45,7 +45,7 @@ use Rattle.ftp_transport.specs.declared.room.Room.{Room}
 use Rattle.ftp_dialogue.proofs.Sorts.{finishing_opens, opens_drains_none, opens_no_local, unheld_call}
 use Rattle.ftp_dialogue.specs.Coding.{Coding}
 use Rattle.ftp_dialogue.specs.NetEvents.{answers, constructed, constructing, during_request, after_request, moved, secured, securing as securing_now, settled}
-use Rattle.ftp_dialogue.specs.Dialogue.{Here, There, Tree, Say, Hear, Look, Ask, Build, Secure, Move, Leaf, accepting, admitting, opening_data, at_port, awaiting, closed_as, concluded, connecting_to, connecting_to_peer, dialogue, doing, entered, expected_of, fetch_concluded, fetch_closing_data, fetched, from_turn, gathering, last_turn, later, lets_in, most_reads, negotiating, negotiating_unless, on_address, on_built, on_connection, on_data, on_sent, opened_answer, opened_from, opening, performing, restart_turn, saying, securing, sending, sending_all, size_to_send, strangers, to_address, to_port, told_of_close, too_long, unfetched, with_left, with_transfer, closing_data, wants_memory, with_abandoned, with_fetched}
+use Rattle.ftp_dialogue.specs.Dialogue.{Here, There, Tree, Say, Hear, Look, Ask, Build, Secure, Move, Leaf, accepting, admitting, opening_data, at_port, awaiting, closed_as, concluded, connecting_to, connecting_to_peer, dialogue, doing, entered, expected_of, fetch_concluded, fetch_closing_data, fetched, from_turn, gathering, last_turn, later, lets_in, most_reads, negotiating, negotiating_unless, on_address, on_built, on_connection, on_data, on_sent, opened_answer, opened_from, opening, performing, restart_turn, saying, securing, sending, sending_all, size_to_send, strangers, to_address, to_port, told_of_close, too_long, unfetched, with_left, with_transfer, closing_data, wants_memory, with_abandoned, with_fetched, asking_passive, on_passive, is_ipv4}
 use Rattle.ftp_base.specs.Ascii.{most_bytes, wire_data}
 use Rattle.ftp_dialogue.specs.Laws.{AsksPeerAlone, LeadsTo, UsesPeerHost, offset_after, reached}
 use Rattle.ftp_dialogue.specs.Play.{Lacking, asked_then, built_then, finally, fits, heard_then, lacks, leaving, moved_then, secured_then, play, play_call, play_unless, refusal, refused_if_failed, taken}
@@ -60,6 +60,7 @@ use Rattle.ftp_dialogue.specs.declared.model.Wait.TheVariants as wait
 use Rattle.ftp_dialogue.specs.declared.state.Owed.{Owed}
 use Rattle.ftp_dialogue.specs.declared.state.Owed.TheVariants.{Nothing as NoneOwed, Live, Left}
 use Rattle.ftp_dialogue.specs.declared.state.State.{State}
+use Rattle.ftp_base.specs.declared.status.Status.TheVariants.{ExtendedPassiveMode}
 
 -- no offset is left
 abbrev pub NoOffset : State → Type 0
@@ -77,14 +78,18 @@ Keeps peer Sort (Secure next) = (fault : Option FtpError) → Keeps peer Sort (n
 Keeps peer Sort (Move moves next) = (outcome : NetOutcome) → Keeps peer Sort (next outcome)
 Keeps peer Sort (Leaf answer state) = NoOffset state
 
--- the requests of the modes are of this sort; a connection to another host is asked for in the passive mode alone
+-- the modes in which a server may tell another host: those that ask by PASV
+abbrev pub TellsHost : Mode → Type 0
+TellsHost m = (m ≡ mode.Passive) ⊎ (m ≡ mode.Automatic)
+
+-- the requests of the modes are of this sort; a connection to another host is asked for in those modes alone
 pub record Admits (peer : SocketAddr) (Sort : Request → Type 0) (state : State) : Type 0 where
   pub listens : (address : SocketAddr) → Sort (Listen address)
   pub accepts : (deadline : Duration) → Sort (Accept deadline)
   pub to_peer : (port : ℕ) → Sort (Connect (at_port port peer) None)
-  pub to_others : state.settings.mode ≡ mode.Passive → state.settings.passive_nat_workaround ≡ false → (address : SocketAddr) → Sort (Connect address None)
+  pub to_others : TellsHost state.settings.mode → state.settings.passive_nat_workaround ≡ false → (address : SocketAddr) → Sort (Connect address None)
   pub builds_to_peer : (port : ℕ) → Sort (BuildAt (at_port port peer))
-  pub builds_to_others : state.settings.mode ≡ mode.Passive → state.settings.passive_nat_workaround ≡ false → (address : SocketAddr) → Sort (BuildAt address)
+  pub builds_to_others : TellsHost state.settings.mode → state.settings.passive_nat_workaround ≡ false → (address : SocketAddr) → Sort (BuildAt address)
 
 -- The trees
 
@@ -137,6 +142,7 @@ module _ (peer : SocketAddr) (Sort : Request → Type 0) (state : State) (admits
   opening_keeps opened keeps mode.Active = accepting_keeps (securing opened state) (securing_keeps opened keeps) peer strangers
   opening_keeps opened keeps mode.Passive = securing_keeps opened keeps
   opening_keeps opened keeps mode.ExtendedPassive = securing_keeps opened keeps
+  opening_keeps opened keeps mode.Automatic = securing_keeps opened keeps
 
   -- a whole data connection is read
   closing_data_keeps : (form : Fetch) (answer : Answer) → Keeps peer Sort (fetch_closing_data form answer state)
@@ -238,7 +244,7 @@ module _ (peer : SocketAddr) (Sort : Request → Type 0) (state : State) (admits
     peer_keeps : (port : ℕ) → Keeps peer Sort (connecting_to_peer port state (restart_turn coding call offset state))
     peer_keeps port = connecting_keeps (at_port port peer) (restart_turn coding call offset state) (admits.to_peer port) (admits.builds_to_peer port) restart_keeps
 
-    told_keeps : state.settings.mode ≡ mode.Passive → (reply : Response) (told : Result SocketAddr NoAddress) → Keeps peer Sort (to_address state reply (restart_turn coding call offset state) told)
+    told_keeps : TellsHost state.settings.mode → (reply : Response) (told : Result SocketAddr NoAddress) → Keeps peer Sort (to_address state reply (restart_turn coding call offset state) told)
     told_keeps passive reply (Err cause) = none
     told_keeps passive reply (Ok address) = go state.settings.passive_nat_workaround refl
       where
@@ -253,13 +259,24 @@ module _ (peer : SocketAddr) (Sort : Request → Type 0) (state : State) (admits
     port_keeps reply (Err cause) = none
     port_keeps reply (Ok port) = peer_keeps port
 
-    passive_keeps : state.settings.mode ≡ mode.Passive → (heard : Result Response FtpError) → Keeps peer Sort (concluded coding GivesAddress state (later coding call (Passive offset)) heard)
+    passive_keeps : TellsHost state.settings.mode → (heard : Result Response FtpError) → Keeps peer Sort (concluded coding GivesAddress state (later coding call (Passive offset false)) heard)
     passive_keeps passive (Ok reply) = told_keeps passive reply (passive_address_of reply.body)
     passive_keeps passive (Err fault) = none
 
-    extended_keeps : (heard : Result Response FtpError) → Keeps peer Sort (concluded coding GivesPort state (later coding call (ExtendedPassive offset)) heard)
-    extended_keeps (Ok reply) = port_keeps reply (extended_port_of reply.body)
-    extended_keeps (Err fault) = none
+    -- EPSV was refused, and PASV follows
+    fallen_keeps : TellsHost state.settings.mode → (heard : Result Response FtpError) → Keeps peer Sort (on_passive state (restart_turn coding call offset) heard)
+    fallen_keeps passive (Ok reply) = told_keeps passive reply (passive_address_of reply.body)
+    fallen_keeps passive (Err fault) = none
+
+    extended_keeps : (tries : Bool) → (tries ≡ true → TellsHost state.settings.mode) → (heard : Result Response FtpError) → Keeps peer Sort (concluded coding (GivesPort tries) state (later coding call (ExtendedPassive offset tries)) heard)
+    extended_keeps false may (Ok reply) = port_keeps reply (extended_port_of reply.body)
+    extended_keeps true may (Ok reply) = go (not (code_of reply.status == code_of ExtendedPassiveMode))
+      where
+        go : (b : Bool) → Keeps peer Sort (cond b (asking_passive coding state (later coding call (ExtendedPassive offset true))) (to_port state reply (restart_turn coding call offset state) (extended_port_of reply.body)))
+        go true = fallen_keeps (may refl)
+        go false = port_keeps reply (extended_port_of reply.body)
+    extended_keeps false may (Err fault) = none
+    extended_keeps true may (Err fault) = none
 
     -- the turn that tells the server where the client listens
     abbrev told_at : SocketAddr → SocketAddr → Turn
@@ -268,8 +285,9 @@ module _ (peer : SocketAddr) (Sort : Request → Type 0) (state : State) (admits
     opening_data_keeps : (m : Mode) → state.settings.mode ≡ m → Keeps peer Sort (opening_data m coding call offset state)
     opening_data_keeps mode.Active is = λ local.
         (admits.listens (at_port 0 local), address_keeps (λ bound. from_turn coding call (told_at local bound) state) (λ bound. continued_keeps (later coding call (told_at local bound)) restart_keeps))
-    opening_data_keeps mode.Passive is = passive_keeps is
-    opening_data_keeps mode.ExtendedPassive is = extended_keeps
+    opening_data_keeps mode.Passive is = passive_keeps (inl is)
+    opening_data_keeps mode.ExtendedPassive is = extended_keeps false (λ tries. let clash : false ≡ true = tries in cc)
+    opening_data_keeps mode.Automatic is = extended_keeps (is_ipv4 peer) (λ tries. inr is)
 
     negotiating_keeps : Keeps peer Sort (negotiating coding call offset state)
     negotiating_keeps = go (cannot_open state.counts)
@@ -478,8 +496,9 @@ module _ (coding : Coding) (call : Call) (opens_is : negotiates call ≡ true) w
   pub asks_peer : (room : Room) (s : PlayState) → UsesPeerHost s.state.settings → AsksPeerAlone s (play_call room coding call s)
   asks_peer room s passes = go s.failed refl
     where
-      others : UsesPeerHost s.state.settings → s.state.settings.mode ≡ mode.Passive → s.state.settings.passive_nat_workaround ≡ false → (address : SocketAddr) → LeadsTo s.peer (Connect address None)
-      others (inl extended) passive told address = let clash : mode.Passive ≡ mode.ExtendedPassive = sym passive ∙ extended in cc
+      others : UsesPeerHost s.state.settings → TellsHost s.state.settings.mode → s.state.settings.passive_nat_workaround ≡ false → (address : SocketAddr) → LeadsTo s.peer (Connect address None)
+      others (inl extended) (inl passive) told address = let clash : mode.Passive ≡ mode.ExtendedPassive = sym passive ∙ extended in cc
+      others (inl extended) (inr automatic) told address = let clash : mode.Automatic ≡ mode.ExtendedPassive = sym automatic ∙ extended in cc
       others (inr behind) passive told address = let clash : true ≡ false = sym behind.1 ∙ told in cc
 
       admits : Admits s.peer (LeadsTo s.peer) (opened_from call s.state)

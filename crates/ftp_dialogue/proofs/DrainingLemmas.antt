@@ -69,7 +69,7 @@ finishing_follows (SetsText text) is = let clash : false ≡ true = is in cc
 finishing_follows (GoesOn status) is = let clash : false ≡ true = is in cc
 finishing_follows Continues is = let clash : false ≡ true = is in cc
 finishing_follows GivesAddress is = let clash : false ≡ true = is in cc
-finishing_follows GivesPort is = let clash : false ≡ true = is in cc
+finishing_follows (GivesPort tries) is = let clash : false ≡ true = is in cc
 finishing_follows (Opens replies) is = let clash : false ≡ true = is in cc
 finishing_follows (Performs task) is = let clash : false ≡ true = is in cc
 finishing_follows Drains is = let clash : false ≡ true = is in cc

@@ -7,6 +7,7 @@ pub mod DrainingLemmas
 pub mod DueReplies
 pub mod NetEvents
 pub mod Faults
+pub mod FallingBack
 pub mod FetchingLemmas
 pub mod GatheringLemmas
 pub mod Hearing

@@ -45,7 +45,7 @@ use Rattle.ftp_dialogue.specs.declared.state.State.{State}
 use Rattle.ftp_calls.specs.declared.exchange.Turn.{Turn}
 use Rattle.ftp_transport.specs.declared.request.Request.TheVariants.{Accept, Connect}
 use Rattle.ftp_transport.specs.declared.request.RequestOutcome.TheVariants.{Done as Made, Address, Refused}
-use Rattle.ftp_dialogue.specs.Dialogue.{End, Here, There, Tree, Say, Look, Ask, Build, Secure, Move, Leaf, accepting, admitting, opening_data, connecting_to, doing, from_turn, last_turn, later, lets_in, most_reads, negotiating, negotiating_unless, on_address, on_built, on_connection, restart_turn, securing, strangers, with_transfer}
+use Rattle.ftp_dialogue.specs.Dialogue.{End, Here, There, Tree, Say, Look, Ask, Build, Secure, Move, Leaf, accepting, admitting, opening_data, connecting_to, doing, from_turn, last_turn, later, lets_in, most_reads, negotiating, negotiating_unless, on_address, on_built, on_connection, restart_turn, securing, strangers, with_transfer, Hear, asking_passive, on_passive, expecting, concluded}
 use Rattle.ftp_dialogue.specs.Link.{Link}
 use Rattle.ftp_calls.specs.declared.exchange.Movement.{Movement}
 use Rattle.ftp_dialogue.specs.NetEvents.{NetEvent, NetEvents, ConstructedIs, Constructed, Dropped, Handshook, HandshookIs, Moved, MovementIs, Net, RequestIs, Requested, answers, constructed, net_record_of, after_request, moved, secured}
@@ -59,6 +59,12 @@ use Rattle.ftp_dialogue.specs.State.{SessionValue}
 use Rattle.ftp_dialogue.specs.Steps.Moving.{AsksFirst, LetsIn, LetsInIf, Stands, StandsUnless, dropped, Accepts, Concludes, ConnectsTo, Ends, LooksUp, Meets, MeetsIf, Moves, NothingTouched, Speaks, Still, TurnsAway, Walks}
 use Rattle.ftp_dialogue.specs.Steps.Stages.{GoesOnTo, OpeningOf, many, opened_by, StageOf, StepAnswers, TurnOf, is_later, begun_at, first_by, has_asked, nodes_from, nodes_left, nodes_of, remaining, way_of}
 use Rattle.ftp_dialogue.proofs.Moving.{advances_on, leads_on, moves_on, leaf_ends, lacks_memory_at, nothing_leads, nothing_shrinks, stays_put}
+use Rattle.ftp_base.specs.declared.status.Status.TheVariants.{PassiveMode}
+use Rattle.ftp_base.specs.Command.{text_of}
+use Rattle.ftp_base.specs.declared.command.Command.TheVariants as command
+use Rattle.ftp_base.specs.Wire.{wire}
+use Rattle.ftp_calls.specs.declared.exchange.Ending.TheVariants.{GivesAddress}
+use Rattle.std.proofs.Math.Path.{fun_ext}
 
 pub play-Ask : (room : Room) (request : Request) (next : RequestOutcome → Tree) (outcome : RequestOutcome) (outcomes : List NetOutcome) (s : PlayState) → play room (Ask request next) (record s { outcomes = Answered outcome ∷ outcomes }) ≡ play room (next outcome) (record s { net_record = after_request request outcome s.net_record; outcomes = outcomes })
 unfolding play
@@ -611,14 +617,18 @@ agrees_by link coding call offset m stage' old new opens none is at still =
         let T : Tree → Type 0 = λ t. Still link tree t old new in
         let S : Tree → Type 0 = λ t. Speaks tree → Speaks t in
         walks_on link coding call (Negotiating offset) opens (first_by mode.ExtendedPassive offset) old new (subst T (reached mode.ExtendedPassive is) (still tree)) refl (subst S (reached mode.ExtendedPassive is) (λ s. s)) (omega arith) opens
+    go mode.Automatic is =
+        let T : Tree → Type 0 = λ t. Still link tree t old new in
+        let S : Tree → Type 0 = λ t. Speaks tree → Speaks t in
+        walks_on link coding call (Negotiating offset) opens (first_by mode.Automatic offset) old new (subst T (reached mode.Automatic is) (still tree)) refl (subst S (reached mode.Automatic is) (λ s. s)) (omega arith) (opens, tt)
 
 -- How many nodes are left
 
 pub reached_fewer : (turn : Turn) → nodes_from turn - 4 < nodes_from turn - 3
 reached_fewer First = omega arith
 reached_fewer Second = omega arith
-reached_fewer (Passive offset) = omega arith
-reached_fewer (ExtendedPassive offset) = omega arith
+reached_fewer (Passive offset after) = omega arith
+reached_fewer (ExtendedPassive offset tries) = omega arith
 reached_fewer (Active address offset) = omega arith
 reached_fewer (Restart offset) = omega arith
 reached_fewer (Closed close) = omega arith
@@ -627,8 +637,8 @@ reached_fewer Aborted = omega arith
 pub known_fewer : (turn : Turn) → most_reads + strangers + 15 < nodes_from turn - 3
 known_fewer First = omega arith
 known_fewer Second = omega arith
-known_fewer (Passive offset) = omega arith
-known_fewer (ExtendedPassive offset) = omega arith
+known_fewer (Passive offset after) = omega arith
+known_fewer (ExtendedPassive offset tries) = omega arith
 known_fewer (Active address offset) = omega arith
 known_fewer (Restart offset) = omega arith
 known_fewer (Closed close) = omega arith
@@ -654,12 +664,23 @@ restarted_fits coding call offset nodes more =
 pub next_fits : (coding : Coding) (call : Call) (turn : Turn) → NextFits coding call (nodes_from turn) (later coding call turn) (next_turn call turn)
 next_fits coding call First = second_fits coding call (nodes_from First) (omega arith)
 next_fits coding call Second = λ state. refl
-next_fits coding call (Passive offset) = restarted_fits coding call offset (nodes_from (Passive offset)) (omega arith)
-next_fits coding call (ExtendedPassive offset) = restarted_fits coding call offset (nodes_from (ExtendedPassive offset)) (omega arith)
+next_fits coding call (Passive offset after) = restarted_fits coding call offset (nodes_from (Passive offset after)) (omega arith)
+next_fits coding call (ExtendedPassive offset tries) = restarted_fits coding call offset (nodes_from (ExtendedPassive offset tries)) (omega arith)
 next_fits coding call (Active address offset) = restarted_fits coding call offset (nodes_from (Active address offset)) (omega arith)
 next_fits coding call (Restart offset) = second_fits coding call (nodes_from (Restart offset)) (omega arith)
 next_fits coding call (Closed close) = λ state. refl
 next_fits coding call Aborted = second_fits coding call (nodes_from Aborted) (omega arith)
+
+-- EPSV was refused, and PASV follows: that is the turn of PASV
+passive_heard : (coding : Coding) (state : State) (next : State → Tree) → on_passive state next ≡ concluded coding GivesAddress state next
+passive_heard coding state next = fun_ext heard
+  where
+    heard : (came : Result Response FtpError) → on_passive state next came ≡ concluded coding GivesAddress state next came
+    heard (Ok reply) = refl
+    heard (Err fault) = refl
+
+pub fallen_back : (coding : Coding) (call : Call) (offset : ℕ) (state : State) → asking_passive coding state (later coding call (ExtendedPassive offset true)) ≡ from_turn coding call (Passive offset true) state
+fallen_back coding call offset state = ap (λ next. Say (wire coding.encode (text_of command.Pasv)) (Hear (expecting (PassiveMode ∷ [])) next)) (passive_heard coding state (restart_turn coding call offset))
 
 -- the first node of a connection, by who makes it
 pub dials : (address : SocketAddr) (state : State) (next : Tree) → state.settings.stream_builder ≡ false → connecting_to address state next ≡ Ask (Connect address None) (on_connection state next)

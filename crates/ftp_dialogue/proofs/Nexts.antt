@@ -32,7 +32,7 @@ goes_on_unread (ending.SetsText text) kind undrained = refl
 goes_on_unread (ending.GoesOn status) kind undrained = refl
 goes_on_unread ending.Continues kind undrained = refl
 goes_on_unread ending.GivesAddress kind undrained = refl
-goes_on_unread ending.GivesPort kind undrained = refl
+goes_on_unread (ending.GivesPort tries) kind undrained = refl
 goes_on_unread (ending.Opens replies) kind undrained = refl
 goes_on_unread (ending.Performs task) kind undrained = refl
 goes_on_unread (ending.Finishes close) kind undrained = refl
@@ -71,8 +71,8 @@ module _ (call : Call) where
   pub next_of : (turn next : Turn) (how : Ending) → TurnOf call turn → ending_of (row_of call turn) ≡ Some how → kind_of how ≡ Nothing → is_draining how ≡ false → next_turn call turn ≡ Some next → TurnOf call next
   next_of First next how of row kind undrained is = at Second next is (row_unread (row_of call First) how row (goes_on_unread how kind undrained), of.1)
   next_of Second next how of row kind undrained is = let clash : None ≡ Some next = is in cc
-  next_of (Passive offset) next how of row kind undrained is = at (restarted call offset) next is (restarted_of offset of)
-  next_of (ExtendedPassive offset) next how of row kind undrained is = at (restarted call offset) next is (restarted_of offset of)
+  next_of (Passive offset after) next how of row kind undrained is = at (restarted call offset) next is (restarted_of offset of)
+  next_of (ExtendedPassive offset tries) next how of row kind undrained is = at (restarted call offset) next is (restarted_of offset of)
   next_of (Active address offset) next how of row kind undrained is = at (restarted call offset) next is (restarted_of offset of)
   next_of (Restart offset) next how of row kind undrained is = at Second next is (read_opens_none call of, opens_no_local call of)
   next_of (Closed close) next how of row kind undrained is = let clash : None ≡ Some next = is in cc

@@ -37,7 +37,7 @@ ending_agrees (SetsText text) rest own = refl
 ending_agrees (GoesOn status) rest own = refl
 ending_agrees Continues rest own = let clash : false ≡ true = own in cc
 ending_agrees GivesAddress rest own = let clash : false ≡ true = own in cc
-ending_agrees GivesPort rest own = let clash : false ≡ true = own in cc
+ending_agrees (GivesPort tries) rest own = let clash : false ≡ true = own in cc
 ending_agrees (Opens replies) rest own = refl
 ending_agrees (Performs task) rest own = refl
 ending_agrees (Finishes close) rest own = refl
@@ -63,8 +63,8 @@ pub asks_opens : (call : Call) (turn : Turn) (ending : Ending) → ending_of (ro
 unfolding some_ending
 asks_opens call First ending row may of = sym (own_agrees call true) ∙ ap row_agrees row ∙ may
 asks_opens call Second ending row may of = sym (opens_alike call) ∙ sym (own_agrees call false) ∙ ap row_agrees row ∙ may
-asks_opens call (Passive offset) ending row may of = of
-asks_opens call (ExtendedPassive offset) ending row may of = of
+asks_opens call (Passive offset after) ending row may of = of
+asks_opens call (ExtendedPassive offset tries) ending row may of = of
 asks_opens call (Active address offset) ending row may of = of
 asks_opens call (Restart offset) ending row may of = of
 asks_opens call (Closed close) ending row may of =
@@ -77,6 +77,33 @@ asks_opens call Aborted ending row may of =
     let A : Ending → Type 0 = λ e. agrees e ≡ true in
     let clash : false ≡ true = subst A (sym same) may in
     cc
+
+-- the reply that may refuse EPSV is that of its turn
+row_no_port : {T : Type 0} (row : Row) → is_own row ≡ true → ending_of row ≡ Some (GivesPort true) → T
+unfolding some_ending
+row_no_port (Exchanges exchange) own is =
+    let same : exchange.ending ≡ GivesPort true = ap (some_ending (GivesPort true)) is in
+    let Own : Ending → Type 0 = λ e. not (is_negotiating e) && (not (is_draining e) || is_none exchange.says) ≡ true in
+    let clash : false ≡ true = subst Own same own in
+    cc
+row_no_port (Arms offset) own is = let clash : None ≡ Some (GivesPort true) = is in cc
+row_no_port Resyncs own is = let clash : None ≡ Some (GivesPort true) = is in cc
+row_no_port (Sets setting) own is = let clash : None ≡ Some (GivesPort true) = is in cc
+row_no_port (Moves movement) own is = let clash : None ≡ Some (GivesPort true) = is in cc
+
+pub port_turn : (call : Call) (turn : Turn) → ending_of (row_of call turn) ≡ Some (GivesPort true) → (offset : ℕ) × (turn ≡ ExtendedPassive offset true)
+unfolding some_ending
+port_turn call First is = row_no_port (own_row call true) (row_is_own call true) is
+port_turn call Second is = row_no_port (own_row call false) (row_is_own call false) is
+port_turn call (Passive offset after) is = let clash : GivesAddress ≡ GivesPort true = ap (some_ending Done) is in cc
+port_turn call (ExtendedPassive offset tries) is =
+    let same : GivesPort tries ≡ GivesPort true = ap (some_ending Done) is in
+    let tried : tries ≡ true = cc in
+    (offset, ap (λ t. ExtendedPassive offset t) tried)
+port_turn call (Active address offset) is = let clash : Continues ≡ GivesPort true = ap (some_ending Done) is in cc
+port_turn call (Restart offset) is = let clash : Continues ≡ GivesPort true = ap (some_ending Done) is in cc
+port_turn call (Closed close) is = let clash : Finishes close ≡ GivesPort true = ap (some_ending Done) is in cc
+port_turn call Aborted is = let clash : Stops ≡ GivesPort true = ap (some_ending Done) is in cc
 
 -- the kind of an answer is its row's
 pub row_answers : (row : Row) (ending : Ending) (answer : Answer) → ending_of row ≡ Some ending → AnswersKind (kind_of ending) answer → AnswersKind (given_by row) answer
@@ -114,8 +141,8 @@ asking_answers call turn ending (Securing (PerformsAll task)) of row leads answe
 many_nodes : (turn : Turn) → most_reads + strangers + 19 < nodes_from turn
 many_nodes First = omega arith
 many_nodes Second = omega arith
-many_nodes (Passive offset) = omega arith
-many_nodes (ExtendedPassive offset) = omega arith
+many_nodes (Passive offset after) = omega arith
+many_nodes (ExtendedPassive offset tries) = omega arith
 many_nodes (Active address offset) = omega arith
 many_nodes (Restart offset) = omega arith
 many_nodes (Closed close) = omega arith

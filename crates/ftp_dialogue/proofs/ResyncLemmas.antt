@@ -45,8 +45,8 @@ use Rattle.ftp_dialogue.proofs.TransitionsLemmas.{not_memory}
 sending_fewer : (turn : Turn) → nodes_from turn - 2 < nodes_from turn - 1
 sending_fewer First = omega arith
 sending_fewer Second = omega arith
-sending_fewer (Passive offset) = omega arith
-sending_fewer (ExtendedPassive offset) = omega arith
+sending_fewer (Passive offset after) = omega arith
+sending_fewer (ExtendedPassive offset tries) = omega arith
 sending_fewer (Active address offset) = omega arith
 sending_fewer (Restart offset) = omega arith
 sending_fewer (Closed close) = omega arith
@@ -55,8 +55,8 @@ sending_fewer Aborted = omega arith
 seeking_fewer : (turn : Turn) → most_passed_over + 1 < nodes_from turn - 2
 seeking_fewer First = omega arith
 seeking_fewer Second = omega arith
-seeking_fewer (Passive offset) = omega arith
-seeking_fewer (ExtendedPassive offset) = omega arith
+seeking_fewer (Passive offset after) = omega arith
+seeking_fewer (ExtendedPassive offset tries) = omega arith
 seeking_fewer (Active address offset) = omega arith
 seeking_fewer (Restart offset) = omega arith
 seeking_fewer (Closed close) = omega arith

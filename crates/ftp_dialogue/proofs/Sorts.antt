@@ -31,7 +31,7 @@ finishing_gives_none (SetsText text) is = refl
 finishing_gives_none (GoesOn status) is = refl
 finishing_gives_none Continues is = refl
 finishing_gives_none GivesAddress is = refl
-finishing_gives_none GivesPort is = refl
+finishing_gives_none (GivesPort tries) is = refl
 finishing_gives_none (Opens replies) is = refl
 finishing_gives_none (Performs task) is = refl
 finishing_gives_none (Finishes close) is = refl
@@ -52,7 +52,7 @@ finishing_opens_none (SetsText text) is = refl
 finishing_opens_none (GoesOn status) is = refl
 finishing_opens_none Continues is = refl
 finishing_opens_none GivesAddress is = refl
-finishing_opens_none GivesPort is = refl
+finishing_opens_none (GivesPort tries) is = refl
 finishing_opens_none (Opens replies) is = let clash : false ≡ true = is in cc
 finishing_opens_none (Performs task) is = let clash : false ≡ true = is in cc
 finishing_opens_none (Finishes close) is = refl
@@ -73,7 +73,7 @@ reply_ending (SetsText text) is = let clash : false ≡ true = is in cc
 reply_ending (GoesOn status) is = let clash : false ≡ true = is in cc
 reply_ending Continues is = let clash : false ≡ true = is in cc
 reply_ending GivesAddress is = let clash : false ≡ true = is in cc
-reply_ending GivesPort is = let clash : false ≡ true = is in cc
+reply_ending (GivesPort tries) is = let clash : false ≡ true = is in cc
 reply_ending (Opens replies) is = let clash : false ≡ true = is in cc
 reply_ending (Performs task) is = let clash : false ≡ true = is in cc
 reply_ending (Finishes close) is = let clash : false ≡ true = is in cc
@@ -94,7 +94,7 @@ opening_drains_none (SetsText text) is = refl
 opening_drains_none (GoesOn status) is = refl
 opening_drains_none Continues is = refl
 opening_drains_none GivesAddress is = refl
-opening_drains_none GivesPort is = refl
+opening_drains_none (GivesPort tries) is = refl
 opening_drains_none (Opens replies) is = refl
 opening_drains_none (Performs task) is = refl
 opening_drains_none (Finishes close) is = refl
@@ -234,7 +234,7 @@ aborting_ends (SetsText text) is = let clash : false ≡ true = is in cc
 aborting_ends (GoesOn status) is = let clash : false ≡ true = is in cc
 aborting_ends Continues is = let clash : false ≡ true = is in cc
 aborting_ends GivesAddress is = let clash : false ≡ true = is in cc
-aborting_ends GivesPort is = let clash : false ≡ true = is in cc
+aborting_ends (GivesPort tries) is = let clash : false ≡ true = is in cc
 aborting_ends (Opens replies) is = let clash : false ≡ true = is in cc
 aborting_ends (Performs task) is = let clash : false ≡ true = is in cc
 aborting_ends (Finishes close) is = let clash : false ≡ true = is in cc
@@ -255,8 +255,8 @@ aborts_finish call is = row_aborts_finish (row_of call First) is
 pub turn_no_local : (call : Call) (turn : Turn) → TurnOf call turn → is_local call ≡ false
 turn_no_local call First of = of.1
 turn_no_local call Second of = of.1
-turn_no_local call (Passive offset) of = opens_no_local call of
-turn_no_local call (ExtendedPassive offset) of = opens_no_local call of
+turn_no_local call (Passive offset after) of = opens_no_local call of
+turn_no_local call (ExtendedPassive offset tries) of = opens_no_local call of
 turn_no_local call (Active address offset) of = opens_no_local call of
 turn_no_local call (Restart offset) of = opens_no_local call of
 turn_no_local call (Closed close) of = finishing_no_local call of
@@ -286,8 +286,8 @@ stage_no_local call (Transferring fetching) of = opens_no_local call (fetch_open
 pub turn_abroad : (call : Call) (turn : Turn) (row : Row) → row_of call turn ≡ row → local_row row ≡ true → TurnOf call turn → ⊥
 turn_abroad call First row is local of = let clash : true ≡ false = sym local ∙ sym (ap local_row is) ∙ of.1 in cc
 turn_abroad call Second row is local of = let clash : true ≡ false = sym local ∙ sym (ap local_row is) ∙ local_alike call ∙ of.1 in cc
-turn_abroad call (Passive offset) row is local of = let clash : true ≡ false = sym local ∙ sym (ap local_row is) in cc
-turn_abroad call (ExtendedPassive offset) row is local of = let clash : true ≡ false = sym local ∙ sym (ap local_row is) in cc
+turn_abroad call (Passive offset after) row is local of = let clash : true ≡ false = sym local ∙ sym (ap local_row is) in cc
+turn_abroad call (ExtendedPassive offset tries) row is local of = let clash : true ≡ false = sym local ∙ sym (ap local_row is) in cc
 turn_abroad call (Active address offset) row is local of = let clash : true ≡ false = sym local ∙ sym (ap local_row is) in cc
 turn_abroad call (Restart offset) row is local of = let clash : true ≡ false = sym local ∙ sym (ap local_row is) in cc
 turn_abroad call (Closed close) row is local of = let clash : true ≡ false = sym local ∙ sym (ap local_row is) in cc

@@ -31,8 +31,8 @@ and_false false = refl
 one_fewer : (turn : Turn) → nodes_from turn - 1 < nodes_from turn
 one_fewer First = omega arith
 one_fewer Second = omega arith
-one_fewer (Passive offset) = omega arith
-one_fewer (ExtendedPassive offset) = omega arith
+one_fewer (Passive offset after) = omega arith
+one_fewer (ExtendedPassive offset tries) = omega arith
 one_fewer (Active address offset) = omega arith
 one_fewer (Restart offset) = omega arith
 one_fewer (Closed close) = omega arith
@@ -41,8 +41,8 @@ one_fewer Aborted = omega arith
 two_fewer : (turn : Turn) → nodes_from turn - 2 < nodes_from turn
 two_fewer First = omega arith
 two_fewer Second = omega arith
-two_fewer (Passive offset) = omega arith
-two_fewer (ExtendedPassive offset) = omega arith
+two_fewer (Passive offset after) = omega arith
+two_fewer (ExtendedPassive offset tries) = omega arith
 two_fewer (Active address offset) = omega arith
 two_fewer (Restart offset) = omega arith
 two_fewer (Closed close) = omega arith
@@ -52,8 +52,8 @@ two_fewer Aborted = omega arith
 pub later_is_no_read : (call : Call) (turn : Turn) → TurnOf call turn → is_later turn ≡ true → is_read call ≡ false
 later_is_no_read call First of later = let clash : false ≡ true = later in cc
 later_is_no_read call Second of later = of.0
-later_is_no_read call (Passive offset) of later = let clash : false ≡ true = later in cc
-later_is_no_read call (ExtendedPassive offset) of later = let clash : false ≡ true = later in cc
+later_is_no_read call (Passive offset after) of later = let clash : false ≡ true = later in cc
+later_is_no_read call (ExtendedPassive offset tries) of later = let clash : false ≡ true = later in cc
 later_is_no_read call (Active address offset) of later = let clash : false ≡ true = later in cc
 later_is_no_read call (Restart offset) of later = read_opens_none call of
 later_is_no_read call (Closed close) of later = let clash : false ≡ true = later in cc
@@ -70,8 +70,8 @@ said_first coding (Some command) line next some is =
 pub no_read : (call : Call) (turn : Turn) (exchange : Exchange) → row_of call turn ≡ Exchanges exchange → TurnOf call turn → is_none exchange.says ≡ false → is_read call ≡ false
 no_read call First exchange row of some = ap reads row ∙ ap (λ b. only_reads exchange.ending && b) some ∙ and_false (only_reads exchange.ending)
 no_read call Second exchange row of some = of.0
-no_read call (Passive offset) exchange row of some = read_opens_none call of
-no_read call (ExtendedPassive offset) exchange row of some = read_opens_none call of
+no_read call (Passive offset after) exchange row of some = read_opens_none call of
+no_read call (ExtendedPassive offset tries) exchange row of some = read_opens_none call of
 no_read call (Active address offset) exchange row of some = read_opens_none call of
 no_read call (Restart offset) exchange row of some = read_opens_none call of
 no_read call (Closed close) exchange row of some = finishing_no_read call of
@@ -132,8 +132,8 @@ resyncing_begins coding call turn row read = record {
 pub resync_unread : (call : Call) (turn : Turn) → row_of call turn ≡ Resyncs → TurnOf call turn → is_read call ≡ false
 resync_unread call First is of = ap reads is
 resync_unread call Second is of = of.0
-resync_unread call (Passive offset) is of = let clash : false ≡ true = ap resyncing_row is in cc
-resync_unread call (ExtendedPassive offset) is of = let clash : false ≡ true = ap resyncing_row is in cc
+resync_unread call (Passive offset after) is of = let clash : false ≡ true = ap resyncing_row is in cc
+resync_unread call (ExtendedPassive offset tries) is of = let clash : false ≡ true = ap resyncing_row is in cc
 resync_unread call (Active address offset) is of = let clash : false ≡ true = ap resyncing_row is in cc
 resync_unread call (Restart offset) is of = let clash : false ≡ true = ap resyncing_row is in cc
 resync_unread call (Closed close) is of = let clash : false ≡ true = ap resyncing_row is in cc

@@ -86,7 +86,7 @@ fault_stays (ending.SetsText text) state none = refl
 fault_stays (ending.GoesOn status) state none = refl
 fault_stays ending.Continues state none = refl
 fault_stays ending.GivesAddress state none = refl
-fault_stays ending.GivesPort state none = refl
+fault_stays (ending.GivesPort tries) state none = refl
 fault_stays (ending.Opens replies) state none = refl
 fault_stays (ending.Performs task) state none = refl
 fault_stays (ending.Finishes close) state none = refl
@@ -133,7 +133,7 @@ accepted_unheard coding (ending.SetsText text) state other reply next takes = le
 accepted_unheard coding (ending.GoesOn status) state other reply next takes = let clash : false ≡ true = takes in cc
 accepted_unheard coding ending.Continues state other reply next takes = let clash : false ≡ true = takes in cc
 accepted_unheard coding ending.GivesAddress state other reply next takes = let clash : false ≡ true = takes in cc
-accepted_unheard coding ending.GivesPort state other reply next takes = let clash : false ≡ true = takes in cc
+accepted_unheard coding (ending.GivesPort tries) state other reply next takes = let clash : false ≡ true = takes in cc
 accepted_unheard coding (ending.Opens replies) state other reply next takes = let clash : false ≡ true = takes in cc
 accepted_unheard coding (ending.Performs task) state other reply next takes = let clash : false ≡ true = takes in cc
 accepted_unheard coding (ending.Finishes close) state other reply next takes = let clash : false ≡ true = takes in cc
@@ -397,8 +397,8 @@ aborts_after link tree tree' a b c begun answer still second = record {
 pub read_is_quiet : (call : Call) (stage : Stage) → StageOf call stage → is_read call ≡ true → begun_at stage ≡ false
 read_is_quiet call (At First) stage_of read = refl
 read_is_quiet call (At Second) stage_of read = let clash : true ≡ false = sym read ∙ stage_of.0 in cc
-read_is_quiet call (At (Passive offset)) stage_of read = refl
-read_is_quiet call (At (ExtendedPassive offset)) stage_of read = refl
+read_is_quiet call (At (Passive offset after)) stage_of read = refl
+read_is_quiet call (At (ExtendedPassive offset tries)) stage_of read = refl
 read_is_quiet call (At (Active address offset)) stage_of read = refl
 read_is_quiet call (At (Restart offset)) stage_of read = let clash : true ≡ false = sym read ∙ read_opens_none call stage_of in cc
 read_is_quiet call (At (Closed close)) stage_of read = refl

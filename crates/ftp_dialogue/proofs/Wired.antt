@@ -149,7 +149,7 @@ accepted_leaf coding ending.GivesFeatures state reply plain = (_, state, refl)
 accepted_leaf coding (ending.SetsText text) state reply plain = (Unit, _, refl)
 accepted_leaf coding ending.Continues state reply plain = (Unit, state, refl)
 accepted_leaf coding ending.GivesAddress state reply plain = let clash : true ≡ false = plain in cc
-accepted_leaf coding ending.GivesPort state reply plain = let clash : true ≡ false = plain in cc
+accepted_leaf coding (ending.GivesPort tries) state reply plain = let clash : true ≡ false = plain in cc
 accepted_leaf coding (ending.Opens replies) state reply plain = let clash : true ≡ false = plain in cc
 accepted_leaf coding (ending.Performs task) state reply plain = let clash : true ≡ false = plain in cc
 accepted_leaf coding (ending.Finishes close) state reply plain = (finish_answer close, with_finished state, refl)
@@ -245,7 +245,7 @@ module _ (coding : Coding) (call : Call) (answer : Answer) (s t : PlayState) (st
       ] done
   next ending.Continues reply m plain done = last (row_of call Second) m (second_plain call none) (drains_alike call ∙ undrained) done
   next ending.GivesAddress reply m plain done = let clash : true ≡ false = plain in cc
-  next ending.GivesPort reply m plain done = let clash : true ≡ false = plain in cc
+  next (ending.GivesPort tries) reply m plain done = let clash : true ≡ false = plain in cc
   next (ending.Opens replies) reply m plain done = let clash : true ≡ false = plain in cc
   next (ending.Performs task) reply m plain done = let clash : true ≡ false = plain in cc
   next (ending.Finishes close) reply m plain done = stays m _ _ done

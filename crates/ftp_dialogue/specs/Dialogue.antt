@@ -1,13 +1,13 @@
 -- The dialogues of a session as trees: RFC 959, sections 5.4 and 6. A tree says, hears and asks in turn, and ends
 -- in an answer with the change of state.
-use Rattle.std.specs.Prelude.{ℕ, zero, suc, drop, length, nat_le, nat_lt, ◌++◌, ◌&&◌, ◌||◌, Bool, true, false, List, [], ◌∷◌, ◌==◌, Option, Some, None, Result, Ok, Err, if◌then◌else◌}
+use Rattle.std.specs.Prelude.{ℕ, zero, suc, drop, length, nat_le, nat_lt, ◌++◌, ◌&&◌, ◌||◌, Bool, true, false, List, [], ◌∷◌, ◌==◌, Option, Some, None, Result, Ok, Err, if◌then◌else◌, not}
 use Rattle.std.specs.Net.Socket.{socket_ip, socket_port}
 use Rattle.std.specs.declared.io.ErrorKind.{ErrorKind}
 use Rattle.std.specs.declared.io.ErrorKind.TheVariants.{WriteZero}
 use Rattle.std.specs.declared.net.socket_addr.SocketAddr.{SocketAddr}
 use Rattle.std.specs.declared.net.socket_addr.SocketAddr.TheVariants.{V4, V6}
 use Rattle.ftp_base.specs.declared.status.Status.{Status}
-use Rattle.ftp_base.specs.declared.status.Status.TheVariants.{System, TransferAborted, ClosingDataConnection, CommandOk, NotAvailable, NotLoggedIn, RequestedFileActionOk}
+use Rattle.ftp_base.specs.declared.status.Status.TheVariants.{System, TransferAborted, ClosingDataConnection, CommandOk, NotAvailable, NotLoggedIn, RequestedFileActionOk, ExtendedPassiveMode, PassiveMode}
 use Rattle.ftp_base.specs.Status.{code_of}
 use Rattle.ftp_base.specs.declared.types.reply.Response.{Response}
 use Rattle.ftp_base.specs.declared.types.fault.FtpError.{FtpError}
@@ -140,6 +140,11 @@ abbrev pub at_port : ℕ → SocketAddr → SocketAddr
 at_port port (V4 address) = V4 (record address { port = port })
 at_port port (V6 address) = V6 (record address { port = port })
 
+-- an address of IPv4
+abbrev pub is_ipv4 : SocketAddr → Bool
+is_ipv4 (V4 address) = true
+is_ipv4 (V6 address) = false
+
 -- what the address that a request resulted in leads to; where there is none the error is the answer
 abbrev pub on_address : State → (SocketAddr → Tree) → RequestOutcome → Tree
 on_address state next Made = Leaf (Fault (Connection Nowhere)) state
@@ -184,6 +189,18 @@ abbrev pub to_port : State → Response → Tree → Result ℕ NoAddress → Tr
 to_port state reply next (Ok port) = connecting_to_peer port state next
 to_port state reply next (Err cause) = Leaf (Fault (no_address reply cause)) state
 
+-- EPSV was refused, and PASV follows: RFC 2428, section 2
+abbrev pub falls_back : Bool → Response → Bool
+falls_back tries reply = tries && not (code_of reply.status == code_of ExtendedPassiveMode)
+
+abbrev pub on_passive : State → (State → Tree) → Result Response FtpError → Tree
+on_passive state later (Ok reply) = to_address state reply (later state) (passive_address_of reply.body)
+on_passive state later (Err fault) = Leaf (Fault fault) state
+
+abbrev pub asking_passive : Coding → State → (State → Tree) → Tree
+asking_passive coding state later =
+    Say (wire coding.encode (text_of command.Pasv)) (Hear (expecting (PassiveMode ∷ [])) (on_passive state later))
+
 -- a transfer is live from now on
 abbrev pub with_transfer : State → State
 with_transfer state = record state { counts = one_more state.counts }
@@ -215,6 +232,7 @@ abbrev pub opening : Mode → Tree → State → Tree
 opening mode.Active opened state = Look There (λ peer. accepting (securing opened state) peer strangers state)
 opening mode.Passive opened state = securing opened state
 opening mode.ExtendedPassive opened state = securing opened state
+opening mode.Automatic opened state = securing opened state
 
 abbrev pub opened_answer : Bool → Response → Answer
 opened_answer gives_reply reply = if gives_reply then OpenedWith reply else Opened
@@ -439,7 +457,8 @@ accepted coding (SetsText text) state reply later = Leaf Unit (record state { se
 accepted coding (GoesOn status) state reply later = if code_of reply.status == code_of status then later state else Leaf Unit state
 accepted coding Continues state reply later = later state
 accepted coding GivesAddress state reply later = to_address state reply (later state) (passive_address_of reply.body)
-accepted coding GivesPort state reply later = to_port state reply (later state) (extended_port_of reply.body)
+accepted coding (GivesPort tries) state reply later =
+    if falls_back tries reply then asking_passive coding state later else to_port state reply (later state) (extended_port_of reply.body)
 accepted coding (Opens gives_reply) state reply later = opening state.settings.mode (Leaf (opened_answer gives_reply reply) (with_transfer state)) state
 accepted coding (Performs task) state reply later = opening state.settings.mode (performing coding task state) state
 accepted coding (Finishes close) state reply later = Leaf (finish_answer close) (with_finished state)
@@ -536,8 +555,8 @@ restart_turn coding call offset state =
 abbrev pub later : Coding → Call → Turn → State → Tree
 later coding call First state = last_turn coding call state
 later coding call Second state = Leaf Unit state
-later coding call (Passive offset) state = restart_turn coding call offset state
-later coding call (ExtendedPassive offset) state = restart_turn coding call offset state
+later coding call (Passive offset after) state = restart_turn coding call offset state
+later coding call (ExtendedPassive offset tries) state = restart_turn coding call offset state
 later coding call (Active address offset) state = restart_turn coding call offset state
 later coding call (Restart offset) state = last_turn coding call state
 later coding call (Closed close) state = Leaf Unit state
@@ -555,11 +574,19 @@ listening_at coding call offset state local =
 abbrev pub listening : Coding → Call → ℕ → State → Tree
 listening coding call offset state = Look Here (listening_at coding call offset state)
 
+-- the client asks by EPSV; over IPv4, which PASV has as well, by PASV where that is refused
+abbrev pub choosing_for : Coding → Call → ℕ → State → SocketAddr → Tree
+choosing_for coding call offset state peer = from_turn coding call (ExtendedPassive offset (is_ipv4 peer)) state
+
+abbrev pub choosing : Coding → Call → ℕ → State → Tree
+choosing coding call offset state = Look There (choosing_for coding call offset state)
+
 -- who opens the data connection, and how it is asked for
 abbrev pub opening_data : Mode → Coding → Call → ℕ → State → Tree
 opening_data mode.Active coding call offset state = listening coding call offset state
-opening_data mode.Passive coding call offset state = from_turn coding call (Passive offset) state
-opening_data mode.ExtendedPassive coding call offset state = from_turn coding call (ExtendedPassive offset) state
+opening_data mode.Passive coding call offset state = from_turn coding call (Passive offset false) state
+opening_data mode.ExtendedPassive coding call offset state = from_turn coding call (ExtendedPassive offset false) state
+opening_data mode.Automatic coding call offset state = choosing coding call offset state
 
 -- a data connection is negotiated, for a transfer that begins at this offset, where it can be opened
 abbrev pub negotiating_unless : Option FtpError → Coding → Call → ℕ → State → Tree

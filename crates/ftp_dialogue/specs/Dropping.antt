@@ -27,6 +27,7 @@ awaits_peer (Asking turn (Securing opened)) = true
 awaits_peer (Asking turn (PeerPort port)) = false
 awaits_peer (Asking turn (Connection address)) = false
 awaits_peer (Negotiating offset) = false
+awaits_peer (Choosing offset) = false
 awaits_peer (Locating offset) = false
 awaits_peer (Binding address offset) = false
 

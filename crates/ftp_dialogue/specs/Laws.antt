@@ -4,7 +4,7 @@ use Rattle.std.specs.Prelude.{◌≡◌, ◌⊎◌, ℕ, true, List, ◌++◌}
 use Rattle.std.specs.List.{All}
 use Rattle.std.specs.Net.Socket.{socket_ip}
 use Rattle.std.specs.declared.net.socket_addr.SocketAddr.{SocketAddr}
-use Rattle.ftp_base.specs.declared.types.mode.Mode.TheVariants.{Passive, ExtendedPassive}
+use Rattle.ftp_base.specs.declared.types.mode.Mode.TheVariants.{Passive, ExtendedPassive, Automatic}
 use Rattle.ftp_transport.specs.declared.request.Request.{Request}
 use Rattle.ftp_transport.specs.declared.request.Request.TheVariants.{Connect, Listen, Accept, Build}
 use Rattle.ftp_dialogue.specs.declared.model.Played.{Played}
@@ -25,7 +25,8 @@ offset_after played = (reached played).state.settings.restart_offset
 -- rewrites addresses the host that the reply to PASV tells is passed over: RFC 2428, section 3; RFC 959, section 4.1.2
 abbrev pub UsesPeerHost : Settings → Type 0
 UsesPeerHost settings =
-    (settings.mode ≡ ExtendedPassive) ⊎ ((settings.mode ≡ Passive) × (settings.passive_nat_workaround ≡ true))
+    (settings.mode ≡ ExtendedPassive)
+    ⊎ (((settings.mode ≡ Passive) ⊎ (settings.mode ≡ Automatic)) × (settings.passive_nat_workaround ≡ true))
 
 -- a connection that is asked for, of the transport or of the caller's builder, leads to the host of this peer, at
 -- whichever port; other requests lead nowhere

@@ -95,7 +95,7 @@ goes_on_with (SetsText text) reply = false
 goes_on_with (GoesOn status) reply = code_of reply.status == code_of status
 goes_on_with Continues reply = true
 goes_on_with GivesAddress reply = true
-goes_on_with GivesPort reply = true
+goes_on_with (GivesPort tries) reply = true
 goes_on_with (Opens replies) reply = false
 goes_on_with (Performs task) reply = false
 goes_on_with (Finishes close) reply = false

@@ -48,7 +48,8 @@ impl<Tr: Network> Machine<Tr> {
         ensures waits { result ≡ Step.Pending → Tr.Conn.may_wait }
         ensures end { Tr.Conn.tells → Tr.Conn.may_wait →
             EndsAsTold self.old.channel.ended self.new.channel.ended self.old.channel.told }
-        ensures breaks { BreaksOff (asking (A.builds asker.now) A.may_wait (polling Tr.Conn.PollConn)) (coding_of E.decoded E.encoded encoding.now) call.now
+        ensures breaks { BreaksOff (asking (A.builds asker.now) A.may_wait (polling
+            Tr.Conn.PollConn)) (coding_of E.decoded E.encoded encoding.now) call.now
             (Stage.Aborting aborting) stage.new self.old self.new result }
     {
         match aborting {
@@ -73,7 +74,8 @@ impl<Tr: Network> Machine<Tr> {
         requires aborts { aborts call.now ≡ true }
         ensures moves { result ≡ Step.Pending → ⊥ }
         ensures end { self.new.channel.ended ≡ self.old.channel.ended }
-        ensures breaks { BreaksOff (asking (A.builds _asker.now) A.may_wait (polling Tr.Conn.PollConn)) (coding_of E.decoded E.encoded encoding.now) call.now
+        ensures breaks { BreaksOff (asking (A.builds _asker.now) A.may_wait (polling
+            Tr.Conn.PollConn)) (coding_of E.decoded E.encoded encoding.now) call.now
             (Stage.Aborting Aborting.Wording) stage.new self.old self.new result }
     {
         match abort_line(alloc, encoding) {
@@ -102,7 +104,8 @@ impl<Tr: Network> Machine<Tr> {
         ensures end { Tr.Conn.tells → Tr.Conn.may_wait →
             EndsAsTold self.old.channel.ended self.new.channel.ended self.old.channel.told }
         ensures breaks { (coding : Coding) →
-            BreaksOff (asking (A.builds asker.now) A.may_wait (polling Tr.Conn.PollConn)) coding call.now
+            BreaksOff (asking (A.builds asker.now) A.may_wait (polling Tr.Conn.PollConn)) coding
+            call.now
             (Stage.Aborting (Aborting.Sending line)) stage.new self.old self.new result }
     {
         match self.say(asker, &mut line, w) {
@@ -133,7 +136,8 @@ impl<Tr: Network> Machine<Tr> {
         ensures moves { result ≡ Step.Pending → ⊥ }
         ensures end { self.new.channel.ended ≡ self.old.channel.ended }
         ensures breaks { (coding : Coding) →
-            BreaksOff (asking (A.builds _asker.now) A.may_wait (polling Tr.Conn.PollConn)) coding _call.now
+            BreaksOff (asking (A.builds _asker.now) A.may_wait (polling Tr.Conn.PollConn)) coding
+            _call.now
             (Stage.Aborting Aborting.ClosingData) stage.new self.old self.new result }
     {
         pass_over(self.close_data());

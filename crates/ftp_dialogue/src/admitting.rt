@@ -44,8 +44,10 @@ impl<Tr: Network> Machine<Tr> {
         requires opened { OpeningOf _call.now opened }
         ensures end { self.new.channel.ended ≡ self.old.channel.ended }
         ensures walks { (coding : Coding) →
-            Walks (asking (A.builds asker.now) A.may_wait (polling Tr.Conn.PollConn)) coding _call.now
-            (Stage.OpeningData (OpeningData.Asking turn (Asking.Peer opened))) stage.new self.old self.new result }
+            Walks (asking (A.builds asker.now) A.may_wait (polling Tr.Conn.PollConn)) coding
+            _call.now
+            (Stage.OpeningData (OpeningData.Asking turn (Asking.Peer opened))) stage.new self.old
+            self.new result }
     {
         match self.look_there(asker, w) {
             Ok(peer) => {
@@ -80,8 +82,10 @@ impl<Tr: Network> Machine<Tr> {
         requires opened { OpeningOf _call.now opened }
         ensures end { self.new.channel.ended ≡ self.old.channel.ended }
         ensures walks { (coding : Coding) →
-            Walks (asking (A.builds asker.now) A.may_wait (polling Tr.Conn.PollConn)) coding _call.now
-            (Stage.OpeningData (OpeningData.Asking turn (Asking.Accepting peer left opened))) stage.new self.old self.new result }
+            Walks (asking (A.builds asker.now) A.may_wait (polling Tr.Conn.PollConn)) coding
+            _call.now
+            (Stage.OpeningData (OpeningData.Asking turn (Asking.Accepting peer left opened)))
+            stage.new self.old self.new result }
     {
         match self.ask_to_accept(asker, w) {
             Poll::Ready(Ok(outcome)) => self.meet(outcome, turn, peer, left, opened, stage),
@@ -152,8 +156,10 @@ impl<Tr: Network> Machine<Tr> {
         requires opened { OpeningOf _call.now opened }
         ensures end { self.new.channel.ended ≡ self.old.channel.ended }
         ensures walks { (coding : Coding) →
-            Walks (asking (A.builds asker.now) A.may_wait (polling Tr.Conn.PollConn)) coding _call.now
-            (Stage.OpeningData (OpeningData.Asking turn (Asking.Securing opened))) stage.new self.old self.new result }
+            Walks (asking (A.builds asker.now) A.may_wait (polling Tr.Conn.PollConn)) coding
+            _call.now
+            (Stage.OpeningData (OpeningData.Asking turn (Asking.Securing opened))) stage.new
+            self.old self.new result }
     {
         match self.ask_to_secure(asker, w) {
             Poll::Ready(Ok(fault)) => self.stand_unless(fault, opened, stage),

@@ -48,7 +48,8 @@ impl<Tr: Network> Machine<Tr> {
 
     /// Whether a call lacks its transfer: none is held; or, where it drains one that was left, none was.
     fn lacks(&self, call: &Call) -> bool
-        ensures { result ≡ lacks call.now (is_none self.now.net.data_conn) self.now.state.counts.owed }
+        ensures { result ≡ lacks call.now (is_none self.now.net.data_conn)
+            self.now.state.counts.owed }
     {
         if drains(call) {
             !matches!(self.state.counts.owed(), Owed::Left(_))
@@ -99,7 +100,8 @@ impl<Tr: Network> Machine<Tr> {
         requires finishes { finishes _call.now ≡ true }
         ensures end { self.new.channel.ended ≡ self.old.channel.ended }
         ensures walks { (coding : Coding) →
-            Walks (asking (A.builds _asker.now) A.may_wait (polling Tr.Conn.PollConn)) coding _call.now
+            Walks (asking (A.builds _asker.now) A.may_wait (polling Tr.Conn.PollConn)) coding
+            _call.now
             Stage.Closing stage.new self.old self.new result }
     {
         let outcome = self.close_data();

@@ -57,7 +57,8 @@ impl<Tr: Network> Machine<Tr> {
         Tr::Conn: PollConn<W>,
         requires going { self.old.channel.failed ≡ false }
         ensures waits { result ≡ poll.Pending → Tr.Conn.may_wait }
-        ensures catches_up { CatchesUp (polling Tr.Conn.PollConn) (is_plain_read call.now) self.old self.new result }
+        ensures catches_up { CatchesUp (polling Tr.Conn.PollConn) (is_plain_read call.now) self.old
+            self.new result }
     {
         self.poll_caught_up(alloc, is_read(call) && !drains(call), w)
     }
@@ -95,8 +96,10 @@ impl<Tr: Network> Machine<Tr> {
         requires blocks { A.may_wait → ⊥ }
         requires unheld { of_transfer call.now ≡ false }
         ensures answers { MayAnswer call.now result }
-        ensures made { InStepIf (is_behind call.now self.old) (blocking Tr.Conn.Conn) (is_plain_read call.now) (drains call.now)
-            (MadeDrained (asking (A.builds asker.now) A.may_wait (blocking Tr.Conn.Conn)) (coding_of E.decoded E.encoded encoding.now) call.now)
+        ensures made { InStepIf (is_behind call.now self.old) (blocking Tr.Conn.Conn) (is_plain_read
+            call.now) (drains call.now)
+            (MadeDrained (asking (A.builds asker.now) A.may_wait (blocking Tr.Conn.Conn)) (coding_of
+            E.decoded E.encoded encoding.now) call.now)
             self.old self.new result }
     {
         if self.is_behind(call) {
@@ -116,7 +119,8 @@ impl<Tr: Network> Machine<Tr> {
         Tr::Conn: Conn,
         requires left { none_left self.old.state.counts.owed ≡ false }
         ensures made { InStepIf (is_behind Call.Drain self.old) (blocking Tr.Conn.Conn) false true
-            (MadeDrained (blocking Tr.Conn.Conn) (coding_of E.decoded E.encoded encoding.now) Call.Drain)
+            (MadeDrained (blocking Tr.Conn.Conn) (coding_of E.decoded E.encoded encoding.now)
+            Call.Drain)
             self.old self.new (drain_told result) }
     {
         if self.is_behind(&Call::Drain) {
@@ -148,7 +152,8 @@ impl<Tr: Network> Machine<Tr> {
         ensures waits { result ≡ poll.Pending → Tr.Conn.may_wait }
         ensures fails { self.new.channel.failed ≡ true →
             (self.old.channel.failed ≡ true) ⊎ GivesFault result }
-        ensures reads { PollsReadInStep (polling Tr.Conn.PollConn) (coding_of E.decoded E.encoded encoding.now) (expecting expected.now)
+        ensures reads { PollsReadInStep (polling Tr.Conn.PollConn) (coding_of E.decoded E.encoded
+            encoding.now) (expecting expected.now)
             self.old self.new result }
     {
         if self.is_late() {
@@ -199,7 +204,8 @@ impl<Tr: Network> Machine<Tr> {
         ensures waits { result ≡ poll.Pending → Tr.Conn.may_wait }
         ensures fails { self.new.channel.failed ≡ true →
             (self.old.channel.failed ≡ true) ⊎ TellsFault result }
-        ensures reads { ReadsDue plain most_commands (polling Tr.Conn.PollConn) self.old self.new result }
+        ensures reads { ReadsDue plain most_commands (polling Tr.Conn.PollConn) self.old self.new
+            result }
     {
         let mut left = u64::MAX;
         'due: while left > 0 {

@@ -53,7 +53,8 @@ impl<Tr: Network> Machine<Tr> {
         requires channel { is_local call.now ≡ false }
         requires blocks { A.may_wait → ⊥ }
         ensures answers { of_transfer call.now ≡ false → MayAnswer call.now result }
-        ensures made { MadeDrained (asking (A.builds asker.now) A.may_wait (blocking Tr.Conn.Conn)) (coding_of E.decoded E.encoded encoding.now) call.now
+        ensures made { MadeDrained (asking (A.builds asker.now) A.may_wait (blocking Tr.Conn.Conn))
+            (coding_of E.decoded E.encoded encoding.now) call.now
             self.old self.new result }
     {
         if self.is_due(call) {
@@ -83,7 +84,8 @@ impl<Tr: Network> Machine<Tr> {
         ensures waits { result ≡ poll.Pending → Tr.Conn.may_wait }
         ensures fails { self.new.channel.failed ≡ true →
             (self.old.channel.failed ≡ true) ⊎ GivesFault result }
-        ensures reads { PollsRead (polling Tr.Conn.PollConn) (coding_of E.decoded E.encoded encoding.now) (expecting expected.now)
+        ensures reads { PollsRead (polling Tr.Conn.PollConn) (coding_of E.decoded E.encoded
+            encoding.now) (expecting expected.now)
             self.old self.new result }
     {
         if self.is_due_before_read() {
@@ -114,7 +116,8 @@ impl<Tr: Network> Machine<Tr> {
         Tr::Conn: PollConn<W>,
         requires due { due_before_read self.old ≡ true }
         ensures waits { result ≡ poll.Pending → Tr.Conn.may_wait }
-        ensures drains { PollsDrain (polling Tr.Conn.PollConn) (coding_of E.decoded E.encoded encoding.now)
+        ensures drains { PollsDrain (polling Tr.Conn.PollConn) (coding_of E.decoded E.encoded
+            encoding.now)
             self.old self.new result }
     {
         let mut stage = self.enter(&Call::Drain);

@@ -40,7 +40,9 @@ impl<Tr: Network> Machine<Tr> {
 
     /// The transfer of an abort that is dropped once `ABOR` has gone out whole was aborted.
     fn abort_by(&mut self, call: &Call, stage: &Stage)
-        ensures { self.new ≡ record self.old { state = aborted_by call.now stage.now self.old.state } }
+        ensures { self.new ≡ record self.old {
+          state = aborted_by call.now stage.now self.old.state;
+        } }
     {
         if aborts(call) && is_out(stage) {
             self.state.counts.abort();

@@ -1,4 +1,4 @@
-//! Where the last error of input or output was met.
+//! Where the last error of input or output was met, and whether the server has refused EPSV.
 //!
 //! It is beside what a contract sees of a machine: no dialogue depends on it.
 
@@ -16,11 +16,12 @@ pub enum Failure {
     Caller,
 }
 
-/// The last failure, and the address of the data connection.
+/// The last failure, the address of the data connection, and whether EPSV was refused.
 #[derive(Drop)]
 pub(crate) struct Failures {
     last: Option<Failure>,
     address: Option<SocketAddr>,
+    refused_epsv: bool,
 }
 
 impl Failures {
@@ -29,6 +30,7 @@ impl Failures {
         Failures {
             last: None,
             address: None,
+            refused_epsv: false,
         }
     }
 
@@ -54,6 +56,16 @@ impl Failures {
         if failed {
             self.last = Some(Failure::Data(self.address));
         }
+    }
+
+    /// The server has refused EPSV.
+    pub(super) fn note_refused_epsv(&mut self) {
+        self.refused_epsv = true;
+    }
+
+    /// Whether the server has refused EPSV.
+    pub(super) fn refused_epsv(&self) -> bool {
+        self.refused_epsv
     }
 
     /// The data connection is of this address from here on.

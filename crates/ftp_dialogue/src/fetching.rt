@@ -59,7 +59,8 @@ impl<Tr: Network> Machine<Tr> {
         ensures waits { result ≡ Step.Pending → Tr.Conn.may_wait ⊎ A.may_wait }
         ensures end { Tr.Conn.tells → Tr.Conn.may_wait →
             EndsAsTold self.old.channel.ended self.new.channel.ended self.old.channel.told }
-        ensures breaks { BreaksOff (asking (A.builds asker.now) A.may_wait (polling Tr.Conn.PollConn)) (coding_of E.decoded E.encoded encoding.now) call.now
+        ensures breaks { BreaksOff (asking (A.builds asker.now) A.may_wait (polling
+            Tr.Conn.PollConn)) (coding_of E.decoded E.encoded encoding.now) call.now
             (Stage.Transferring fetching) stage.new self.old self.new result }
     {
         match fetching {
@@ -99,8 +100,10 @@ impl<Tr: Network> Machine<Tr> {
         requires of { MayFetch _call.now form }
         ensures moves { result ≡ Step.Pending → ⊥ }
         ensures end { self.new.channel.ended ≡ self.old.channel.ended }
-        ensures breaks { (coding : Coding) → BreaksOff (asking (A.builds _asker.now) A.may_wait (polling Tr.Conn.PollConn)) coding _call.now
-            (Stage.Transferring (Transferring.Starting (tasks.Fetch form))) stage.new self.old self.new result }
+        ensures breaks { (coding : Coding) → BreaksOff (asking (A.builds _asker.now) A.may_wait
+            (polling Tr.Conn.PollConn)) coding _call.now
+            (Stage.Transferring (Transferring.Starting (tasks.Fetch form))) stage.new self.old
+            self.new result }
     {
         let none = Gathered::new(alloc);
         go_to(
@@ -130,8 +133,10 @@ impl<Tr: Network> Machine<Tr> {
         requires may { A.may_ask }
         ensures waits { result ≡ Step.Pending → A.may_wait }
         ensures end { self.new.channel.ended ≡ self.old.channel.ended }
-        ensures breaks { BreaksOff (asking (A.builds asker.now) A.may_wait (polling Tr.Conn.PollConn)) (coding_of E.decoded E.encoded encoding.now) _call.now
-            (Stage.Transferring (Transferring.Gathering form left gathered)) stage.new self.old self.new result }
+        ensures breaks { BreaksOff (asking (A.builds asker.now) A.may_wait (polling
+            Tr.Conn.PollConn)) (coding_of E.decoded E.encoded encoding.now) _call.now
+            (Stage.Transferring (Transferring.Gathering form left gathered)) stage.new self.old
+            self.new result }
     {
         if left == 0 {
             go_to(
@@ -178,7 +183,8 @@ impl<Tr: Network> Machine<Tr> {
         requires held { is_none self.old.net.data_conn ≡ false }
         requires may { A.may_ask }
         ensures end { self.new.channel.ended ≡ self.old.channel.ended }
-        ensures grows { Grows (asking (A.builds asker.now) A.may_wait (polling Tr.Conn.PollConn)) gathered.old gathered.new self.old self.new result }
+        ensures grows { Grows (asking (A.builds asker.now) A.may_wait (polling Tr.Conn.PollConn))
+            gathered.old gathered.new self.old self.new result }
     {
         let Some(conn) = &mut self.data_conn else {
             unreachable!();
@@ -203,8 +209,10 @@ impl<Tr: Network> Machine<Tr> {
         requires of { FetchOf _call.now (Transferring.ClosingData form answer) }
         ensures moves { result ≡ Step.Pending → ⊥ }
         ensures end { self.new.channel.ended ≡ self.old.channel.ended }
-        ensures breaks { (coding : Coding) → BreaksOff (asking (A.builds _asker.now) A.may_wait (polling Tr.Conn.PollConn)) coding _call.now
-            (Stage.Transferring (Transferring.ClosingData form answer)) stage.new self.old self.new result }
+        ensures breaks { (coding : Coding) → BreaksOff (asking (A.builds _asker.now) A.may_wait
+            (polling Tr.Conn.PollConn)) coding _call.now
+            (Stage.Transferring (Transferring.ClosingData form answer)) stage.new self.old self.new
+            result }
     {
         let outcome = self.close_data();
         let told = told_of_close(self.state.uploads, &outcome);
@@ -234,8 +242,10 @@ impl<Tr: Network> Machine<Tr> {
         ensures waits { result ≡ Step.Pending → Tr.Conn.may_wait }
         ensures end { Tr.Conn.tells → Tr.Conn.may_wait →
             EndsAsTold self.old.channel.ended self.new.channel.ended self.old.channel.told }
-        ensures breaks { (coding : Coding) → BreaksOff (asking (A.builds asker.now) A.may_wait (polling Tr.Conn.PollConn)) coding _call.now
-            (Stage.Transferring (Transferring.Ending form answer)) stage.new self.old self.new result }
+        ensures breaks { (coding : Coding) → BreaksOff (asking (A.builds asker.now) A.may_wait
+            (polling Tr.Conn.PollConn)) coding _call.now
+            (Stage.Transferring (Transferring.Ending form answer)) stage.new self.old self.new
+            result }
     {
         let codes = [Status::ClosingDataConnection, Status::RequestedFileActionOk];
         match self.hear(asker, alloc, &codes, w) {

@@ -80,7 +80,8 @@ impl Gathered {
     ) -> Poll<More>
         requires may { A.may_ask }
         ensures waits { result ≡ poll.Pending → A.may_wait }
-        ensures grows { GrowsBy Tr.Conn.tells self.old self.new (Tr.Conn.told conn.old) (Tr.Conn.told conn.new) result }
+        ensures grows { GrowsBy Tr.Conn.tells self.old self.new (Tr.Conn.told conn.old)
+            (Tr.Conn.told conn.new) result }
     {
         match read_after(asker, conn, w, &mut self.buffer, self.filled) {
             Err(AllocError) => Poll::Ready(More::NoMemory),
@@ -143,7 +144,8 @@ fn read_after<W, Tr: Network, A: Asks<Tr, W>>(
     ensures holds { IfOk result (λ read. ReadsAtMost read (vec_len buffer.new - filled)) }
     ensures waits { result ≡ Ok (Ok poll.Pending) → A.may_wait }
     ensures told { IfOk result (λ read. Tr.Conn.tells →
-        ReadTells read (drop filled buffer.new.items) (Tr.Conn.told conn.old) (Tr.Conn.told conn.new)) }
+        ReadTells read (drop filled buffer.new.items) (Tr.Conn.told conn.old) (Tr.Conn.told
+        conn.new)) }
     ensures none { OnErr result (Tr.Conn.told conn.new ≡ Tr.Conn.told conn.old) }
 {
     let asked = filled.max(FIRST).min(CHUNK);

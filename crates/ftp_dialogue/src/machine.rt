@@ -132,6 +132,12 @@ impl<Tr: Network> Machine<Tr> {
         self.failures.last()
     }
 
+    /// Whether the server has refused EPSV, for which PASV was sent (`Mode::Automatic`). No call depends on it, and no clause
+    /// has it.
+    pub fn refused_epsv(&self) -> bool {
+        self.failures.refused_epsv()
+    }
+
     /// What the caller handed in has failed, or the data connection of a transfer that was handed out.
     pub fn note_failure(&mut self, caller: bool)
         ensures same { self.new ≡ self.old }

@@ -7,7 +7,7 @@
 ghost use Rattle.std.specs.Prelude.{◌≡◌, true, false};
 ghost use Rattle.ftp_calls.specs.Exchanges.{negotiates};
 ghost use Rattle.ftp_dialogue.specs.Coding.{Coding};
-ghost use Rattle.ftp_dialogue.specs.Dialogue.{Here, There, at_port};
+ghost use Rattle.ftp_dialogue.specs.Dialogue.{Here, There, at_port, is_ipv4};
 ghost use Rattle.ftp_dialogue.specs.Link.{asking, polling};
 ghost use Rattle.ftp_dialogue.specs.Promises.{failed_from};
 ghost use Rattle.ftp_dialogue.specs.Steps.Moving.{ConnectsTo, LooksUp, Walks};
@@ -43,11 +43,13 @@ impl<Tr: Network> Machine<Tr> {
         requires way { WayOf call.now opening_data }
         ensures end { self.new.channel.ended ≡ self.old.channel.ended }
         ensures walks { (coding : Coding) →
-            Walks (asking (A.builds asker.now) A.may_wait (polling Tr.Conn.PollConn)) coding call.now
+            Walks (asking (A.builds asker.now) A.may_wait (polling Tr.Conn.PollConn)) coding
+            call.now
             (Stage.OpeningData opening_data) stage.new self.old self.new result }
     {
         match opening_data {
             OpeningData::Negotiating(offset) => self.negotiate(asker, call, offset, stage, w),
+            OpeningData::Choosing(offset) => self.choose(asker, call, offset, stage, w),
             OpeningData::Locating(offset) => self.locate(asker, call, offset, stage, w),
             OpeningData::Binding(local, offset) => self.bind(asker, call, local, offset, stage, w),
             OpeningData::Asking(turn, Asking::PeerPort(port)) => {
@@ -83,7 +85,8 @@ impl<Tr: Network> Machine<Tr> {
         requires opens { negotiates call.now ≡ true }
         ensures end { self.new.channel.ended ≡ self.old.channel.ended }
         ensures walks { (coding : Coding) →
-            Walks (asking (A.builds _asker.now) A.may_wait (polling Tr.Conn.PollConn)) coding call.now
+            Walks (asking (A.builds _asker.now) A.may_wait (polling Tr.Conn.PollConn)) coding
+            call.now
             (Stage.OpeningData (OpeningData.Negotiating offset)) stage.new self.old self.new result }
     {
         match self.state.counts.cannot_open() {
@@ -95,6 +98,37 @@ impl<Tr: Network> Machine<Tr> {
         }
         go_to(stage, first_by(self.state.settings.mode, offset));
         Step::Next
+    }
+
+    /// The peer's address is looked up: over IPv4 `PASV` follows where `EPSV` is refused.
+    fn choose<W, A: Asks<Tr, W>>(
+        &mut self,
+        asker: &A,
+        _call: &Call,
+        offset: u64,
+        stage: &mut Stage,
+        w: &mut W,
+    ) -> Step
+    where
+        Tr::Conn: PollConn<W>,
+        requires going { self.old.channel.failed ≡ false }
+        requires opens { negotiates _call.now ≡ true }
+        ensures end { self.new.channel.ended ≡ self.old.channel.ended }
+        ensures walks { (coding : Coding) →
+            Walks (asking (A.builds asker.now) A.may_wait (polling Tr.Conn.PollConn)) coding
+            _call.now
+            (Stage.OpeningData (OpeningData.Choosing offset)) stage.new self.old self.new result }
+    {
+        match self.look_there(asker, w) {
+            Ok(peer) => {
+                let tries = is_ipv4(peer);
+                go_to(stage, Stage::At(Turn::ExtendedPassive(offset, tries)));
+                Step::Next
+            }
+            Err(kind) => Step::Done(Answer::Fault(FtpError::ConnectionError(ConnectionError::Io(
+                kind,
+            )))),
+        }
     }
 
     /// This end's address is looked up.
@@ -112,7 +146,8 @@ impl<Tr: Network> Machine<Tr> {
         requires opens { negotiates _call.now ≡ true }
         ensures end { self.new.channel.ended ≡ self.old.channel.ended }
         ensures walks { (coding : Coding) →
-            Walks (asking (A.builds asker.now) A.may_wait (polling Tr.Conn.PollConn)) coding _call.now
+            Walks (asking (A.builds asker.now) A.may_wait (polling Tr.Conn.PollConn)) coding
+            _call.now
             (Stage.OpeningData (OpeningData.Locating offset)) stage.new self.old self.new result }
     {
         match self.look_here(asker, w) {
@@ -146,8 +181,10 @@ impl<Tr: Network> Machine<Tr> {
         requires may { A.may_ask }
         ensures end { self.new.channel.ended ≡ self.old.channel.ended }
         ensures walks { (coding : Coding) →
-            Walks (asking (A.builds asker.now) A.may_wait (polling Tr.Conn.PollConn)) coding _call.now
-            (Stage.OpeningData (OpeningData.Binding local offset)) stage.new self.old self.new result }
+            Walks (asking (A.builds asker.now) A.may_wait (polling Tr.Conn.PollConn)) coding
+            _call.now
+            (Stage.OpeningData (OpeningData.Binding local offset)) stage.new self.old self.new
+            result }
     {
         match self.ask_to_listen(asker, at_port(0, local), w) {
             Poll::Ready(Ok(RequestOutcome::Address(bound))) => {
@@ -184,8 +221,10 @@ impl<Tr: Network> Machine<Tr> {
         requires opens { negotiates _call.now ≡ true }
         ensures end { self.new.channel.ended ≡ self.old.channel.ended }
         ensures walks { (coding : Coding) →
-            Walks (asking (A.builds asker.now) A.may_wait (polling Tr.Conn.PollConn)) coding _call.now
-            (Stage.OpeningData (OpeningData.Asking turn (Asking.PeerPort port))) stage.new self.old self.new result }
+            Walks (asking (A.builds asker.now) A.may_wait (polling Tr.Conn.PollConn)) coding
+            _call.now
+            (Stage.OpeningData (OpeningData.Asking turn (Asking.PeerPort port))) stage.new self.old
+            self.new result }
     {
         match self.look_there(asker, w) {
             Ok(peer) => {
@@ -216,8 +255,10 @@ impl<Tr: Network> Machine<Tr> {
         requires may { A.may_ask }
         ensures end { self.new.channel.ended ≡ self.old.channel.ended }
         ensures walks { (coding : Coding) →
-            Walks (asking (A.builds asker.now) A.may_wait (polling Tr.Conn.PollConn)) coding call.now
-            (Stage.OpeningData (OpeningData.Asking turn (Asking.Connection address))) stage.new self.old self.new result }
+            Walks (asking (A.builds asker.now) A.may_wait (polling Tr.Conn.PollConn)) coding
+            call.now
+            (Stage.OpeningData (OpeningData.Asking turn (Asking.Connection address))) stage.new
+            self.old self.new result }
     {
         if self.state.settings.stream_builder {
             self.construct(asker, call, turn, address, stage, w)
@@ -244,8 +285,10 @@ impl<Tr: Network> Machine<Tr> {
         requires alone { self.old.state.settings.stream_builder ≡ false }
         ensures end { self.new.channel.ended ≡ self.old.channel.ended }
         ensures walks { (coding : Coding) →
-            Walks (asking (A.builds asker.now) A.may_wait (polling Tr.Conn.PollConn)) coding call.now
-            (Stage.OpeningData (OpeningData.Asking turn (Asking.Connection address))) stage.new self.old self.new result }
+            Walks (asking (A.builds asker.now) A.may_wait (polling Tr.Conn.PollConn)) coding
+            call.now
+            (Stage.OpeningData (OpeningData.Asking turn (Asking.Connection address))) stage.new
+            self.old self.new result }
     {
         match self.ask_to_connect(asker, address, w) {
             Poll::Ready(Ok(outcome)) => connected(call, turn, outcome, stage),
@@ -278,8 +321,10 @@ impl<Tr: Network> Machine<Tr> {
         requires beside { self.old.state.settings.stream_builder ≡ true }
         ensures end { self.new.channel.ended ≡ self.old.channel.ended }
         ensures walks { (coding : Coding) →
-            Walks (asking (A.builds asker.now) A.may_wait (polling Tr.Conn.PollConn)) coding call.now
-            (Stage.OpeningData (OpeningData.Asking turn (Asking.Connection address))) stage.new self.old self.new result }
+            Walks (asking (A.builds asker.now) A.may_wait (polling Tr.Conn.PollConn)) coding
+            call.now
+            (Stage.OpeningData (OpeningData.Asking turn (Asking.Connection address))) stage.new
+            self.old self.new result }
     {
         match self.ask_to_build(asker, address, w) {
             Ok(None) => go_on(call, turn, stage),
@@ -298,7 +343,8 @@ impl<Tr: Network> Machine<Tr> {
         Tr::Conn: PollConn<W>,
         requires going { self.old.channel.failed ≡ false }
         ensures end { self.new.channel.ended ≡ self.old.channel.ended }
-        ensures looks { LooksUp (asking (A.builds _asker.now) A.may_wait (polling Tr.Conn.PollConn)) Here self.old self.new result }
+        ensures looks { LooksUp (asking (A.builds _asker.now) A.may_wait (polling Tr.Conn.PollConn))
+            Here self.old self.new result }
     {
         let address = self.channel.local_addr();
         self.failures.note_control(address.is_err());
@@ -315,7 +361,8 @@ impl<Tr: Network> Machine<Tr> {
         Tr::Conn: PollConn<W>,
         requires going { self.old.channel.failed ≡ false }
         ensures end { self.new.channel.ended ≡ self.old.channel.ended }
-        ensures looks { LooksUp (asking (A.builds _asker.now) A.may_wait (polling Tr.Conn.PollConn)) There self.old self.new result }
+        ensures looks { LooksUp (asking (A.builds _asker.now) A.may_wait (polling Tr.Conn.PollConn))
+            There self.old self.new result }
     {
         let address = self.channel.peer_addr();
         self.failures.note_control(address.is_err());
@@ -338,9 +385,17 @@ fn first_by(mode: Mode, offset: u64) -> Stage
 {
     match mode {
         Mode::Active => Stage::OpeningData(OpeningData::Locating(offset)),
-        Mode::Passive => Stage::At(Turn::Passive(offset)),
-        Mode::ExtendedPassive => Stage::At(Turn::ExtendedPassive(offset)),
+        Mode::Passive => Stage::At(Turn::Passive(offset, false)),
+        Mode::ExtendedPassive => Stage::At(Turn::ExtendedPassive(offset, false)),
+        Mode::Automatic => Stage::OpeningData(OpeningData::Choosing(offset)),
     }
+}
+
+/// Whether an address is one of IPv4.
+fn is_ipv4(address: SocketAddr) -> bool
+    ensures { result ≡ is_ipv4 address }
+{
+    matches!(address, SocketAddr::V4(_))
 }
 
 /// A connection was made, or the request failed.

@@ -48,9 +48,11 @@ impl<Tr: Network> Machine<Tr> {
             (fault : Faults) × (answer ≡ Answer.Fault fault) }
         ensures end { Tr.Conn.tells → Tr.Conn.may_wait →
             EndsAsTold self.old.channel.ended self.new.channel.ended self.old.channel.told }
-        ensures takes { TakesLine (asking (A.builds _asker.now) A.may_wait (polling Tr.Conn.PollConn)) line.old line.new self.old
+        ensures takes { TakesLine (asking (A.builds _asker.now) A.may_wait (polling
+            Tr.Conn.PollConn)) line.old line.new self.old
             self.new result }
-        ensures says { SaysNode (asking (A.builds _asker.now) A.may_wait (polling Tr.Conn.PollConn)) line.old line.new self.old self.new result }
+        ensures says { SaysNode (asking (A.builds _asker.now) A.may_wait (polling Tr.Conn.PollConn))
+            line.old line.new self.old self.new result }
     {
         let performed = self.channel.poll_perform(line, w);
         self.failures.note_control(self.channel.failed());
@@ -78,7 +80,8 @@ impl<Tr: Network> Machine<Tr> {
         ensures end { Tr.Conn.tells → Tr.Conn.may_wait →
             EndsAsTold self.old.channel.ended self.new.channel.ended self.old.channel.told }
         ensures hears { (next : Result Heard Faults → Tree) →
-            Hears (asking (A.builds asker.now) A.may_wait (polling Tr.Conn.PollConn)) (expecting expected.now) next self.old self.new result }
+            Hears (asking (A.builds asker.now) A.may_wait (polling Tr.Conn.PollConn)) (expecting
+            expected.now) next self.old self.new result }
         ensures leaves { LeavesReply self.old self.new result }
     {
         self.hear_reply_of(asker, alloc, form_of(expected), expected, w)
@@ -102,7 +105,10 @@ impl<Tr: Network> Machine<Tr> {
         ensures end { Tr.Conn.tells → Tr.Conn.may_wait →
             EndsAsTold self.old.channel.ended self.new.channel.ended self.old.channel.told }
         ensures hears { (next : Result Heard Faults → Tree) →
-            Hears (asking (A.builds _asker.now) A.may_wait (polling Tr.Conn.PollConn)) (record { form = form; statuses = expected.now })
+            Hears (asking (A.builds _asker.now) A.may_wait (polling Tr.Conn.PollConn)) (record {
+              form = form;
+              statuses = expected.now;
+            })
             next self.old self.new result }
         ensures leaves { LeavesReply self.old self.new result }
     {
@@ -128,7 +134,8 @@ impl<Tr: Network> Machine<Tr> {
         ensures end { Tr.Conn.tells → Tr.Conn.may_wait →
             EndsAsTold self.old.channel.ended self.new.channel.ended self.old.channel.told }
         ensures hears { (next : Result Heard Faults → Tree) →
-            Hears (asking (A.builds asker.now) A.may_wait (polling Tr.Conn.PollConn)) (expected_of codes.now) next self.old self.new result }
+            Hears (asking (A.builds asker.now) A.may_wait (polling Tr.Conn.PollConn)) (expected_of
+            codes.now) next self.old self.new result }
     {
         match codes {
             Codes::One(status) => self.hear(asker, alloc, &[*status], w),
@@ -152,6 +159,8 @@ pub(crate) enum Accepted {
     GoesOn,
     /// The transport is asked, or an address looked up, before the next exchange or the answer.
     Asks(Asking),
+    /// `EPSV` was refused, and `PASV` follows.
+    FallsBack,
     /// A whole file or listing goes over the data connection.
     Performs(Task),
     /// The answer.
@@ -168,7 +177,8 @@ pub(crate) fn accept<E: Encoding>(
     reply: Response,
     state: &mut State,
 ) -> Accepted
-    ensures accepts { Accepts (coding_of E.decoded E.encoded encoding.now) ending reply state.old state.new result }
+    ensures accepts { Accepts (coding_of E.decoded E.encoded encoding.now) ending reply state.old
+        state.new result }
     ensures answers { AnswersAs ending result }
 {
     match ending {
@@ -190,7 +200,7 @@ pub(crate) fn accept<E: Encoding>(
         }
         Ending::Continues => Accepted::GoesOn,
         Ending::GivesAddress => address_told(reply, state),
-        Ending::GivesPort => port_told(reply),
+        Ending::GivesPort(tries) => port_told(tries, reply),
         Ending::Opens(gives_reply) => opens(gives_reply, reply, state),
         Ending::Performs(task) => performs(task, state),
         Ending::Finishes(close) => finished(close, state),
@@ -215,7 +225,8 @@ fn done(answer: Result<Answer, AllocError>) -> Accepted
 
 /// The server's greeting is kept, where there is memory for it.
 fn greeted<E: Encoding>(alloc: Global, encoding: &E, reply: Response, state: &mut State) -> Accepted
-    ensures accepts { Accepts (coding_of E.decoded E.encoded encoding.now) Ending.Greets reply state.old state.new result }
+    ensures accepts { Accepts (coding_of E.decoded E.encoded encoding.now) Ending.Greets reply
+        state.old state.new result }
     ensures answers { AnswersAs Ending.Greets result }
 {
     match WelcomeMessage::new(alloc, reply.body, encoding) {
@@ -276,12 +287,16 @@ fn address_told(reply: Response, state: &State) -> Accepted
     }
 }
 
-/// The reply holds the port to connect to.
-fn port_told(reply: Response) -> Accepted
+/// The reply holds the port to connect to, or refuses `EPSV`.
+fn port_told(tries: bool, reply: Response) -> Accepted
     ensures accepts { (coding : Coding) (state : States) →
-        Accepts coding Ending.GivesPort reply state state result }
-    ensures answers { AnswersAs Ending.GivesPort result }
+        Accepts coding (Ending.GivesPort tries) reply state state result }
+    ensures answers { AnswersAs (Ending.GivesPort tries) result }
 {
+    if tries && reply.status.code() != Status::ExtendedPassiveMode.code() {
+        drop(reply);
+        return Accepted::FallsBack;
+    }
     match read_extended_port(reply.body.as_slice()) {
         Ok(port) => Accepted::Asks(Asking::PeerPort(port)),
         Err(NoAddress::Absent) => Accepted::Done(Answer::Fault(FtpError::UnexpectedResponse(
@@ -363,7 +378,8 @@ pub(crate) fn conclude_fault(
 
 /// Memory ran out for a reply: an abort that has begun is one, and nothing else changes.
 fn lose(begun: bool, ending: Ending, state: &mut State)
-    ensures { state.new ≡ (if begun then after_fault_of ending FtpError.OutOfMemory state.old else state.old) }
+    ensures { state.new ≡ (if begun then after_fault_of ending FtpError.OutOfMemory state.old else
+        state.old) }
 {
     match ending {
         Ending::Stops => {
@@ -402,7 +418,7 @@ fn opens(gives_reply: bool, reply: Response, state: &mut State) -> Accepted
     let answer = opened(gives_reply, reply);
     match state.settings.mode {
         Mode::Active => Accepted::Asks(Asking::Peer(Opened::Gives(answer))),
-        Mode::Passive | Mode::ExtendedPassive => {
+        Mode::Passive | Mode::ExtendedPassive | Mode::Automatic => {
             if state.settings.secure {
                 return Accepted::Asks(Asking::Securing(Opened::Gives(answer)));
             }
@@ -420,7 +436,7 @@ fn performs(task: Task, state: &State) -> Accepted
 {
     match state.settings.mode {
         Mode::Active => Accepted::Asks(Asking::Peer(Opened::Performs(task))),
-        Mode::Passive | Mode::ExtendedPassive => {
+        Mode::Passive | Mode::ExtendedPassive | Mode::Automatic => {
             if state.settings.secure {
                 return Accepted::Asks(Asking::Securing(Opened::Performs(task)));
             }

@@ -56,7 +56,8 @@ where
         registrar: &mut G,
         cx: &mut Context<'_>,
     ) -> Waiting
-        ensures asks { AskInTurn G.asks (Connect ∷ Handshake ∷ Peer ∷ []) registrar.old cx.old result
+        ensures asks { AskInTurn G.asks (Connect ∷ Handshake ∷ Peer ∷ []) registrar.old cx.old
+            result
             cx.new registrar.new }
         ensures same { self.new ≡ self.old }
         ensures registered { result ≡ waits.Registered → IsArmed cx.new }

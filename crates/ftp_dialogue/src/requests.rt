@@ -29,7 +29,8 @@ impl<Tr: Network> Machine<Tr> {
         Tr::Conn: PollConn<W>,
         requires may { A.may_ask }
         ensures end { self.new.channel.ended ≡ self.old.channel.ended }
-        ensures asks { AsksFor (asking (A.builds asker.now) A.may_wait (polling Tr.Conn.PollConn)) (Connect address None) self.old self.new result }
+        ensures asks { AsksFor (asking (A.builds asker.now) A.may_wait (polling Tr.Conn.PollConn))
+            (Connect address None) self.old self.new result }
     {
         if self.transport.make_room().is_err() {
             return Poll::Ready(Err(AllocError));
@@ -62,7 +63,8 @@ impl<Tr: Network> Machine<Tr> {
         Tr::Conn: PollConn<W>,
         requires may { A.may_ask }
         ensures end { self.new.channel.ended ≡ self.old.channel.ended }
-        ensures builds { BuildsFor (asking (A.builds asker.now) A.may_wait (polling Tr.Conn.PollConn)) address self.old self.new result }
+        ensures builds { BuildsFor (asking (A.builds asker.now) A.may_wait (polling
+            Tr.Conn.PollConn)) address self.old self.new result }
     {
         if self.transport.make_room().is_err() {
             return Err(AllocError);
@@ -95,7 +97,8 @@ impl<Tr: Network> Machine<Tr> {
         Tr::Conn: PollConn<W>,
         requires may { A.may_ask }
         ensures end { self.new.channel.ended ≡ self.old.channel.ended }
-        ensures asks { AsksFor (asking (A.builds asker.now) A.may_wait (polling Tr.Conn.PollConn)) (Listen address) self.old self.new result }
+        ensures asks { AsksFor (asking (A.builds asker.now) A.may_wait (polling Tr.Conn.PollConn))
+            (Listen address) self.old self.new result }
     {
         self.failures.at(address);
         match asker.listen(&mut self.transport, w, address) {
@@ -124,7 +127,8 @@ impl<Tr: Network> Machine<Tr> {
         Tr::Conn: PollConn<W>,
         requires may { A.may_ask }
         ensures end { self.new.channel.ended ≡ self.old.channel.ended }
-        ensures asks { AsksFor (asking (A.builds asker.now) A.may_wait (polling Tr.Conn.PollConn)) (Accept self.old.state.settings.active_deadline) self.old self.new result }
+        ensures asks { AsksFor (asking (A.builds asker.now) A.may_wait (polling Tr.Conn.PollConn))
+            (Accept self.old.state.settings.active_deadline) self.old self.new result }
     {
         let Some(listener) = &mut self.listener else {
             return Poll::Ready(Err(AllocError));
@@ -161,7 +165,8 @@ impl<Tr: Network> Machine<Tr> {
         Tr::Conn: PollConn<W>,
         requires may { A.may_ask }
         ensures end { self.new.channel.ended ≡ self.old.channel.ended }
-        ensures secures { SecuresFor (asking (A.builds asker.now) A.may_wait (polling Tr.Conn.PollConn)) self.old self.new result }
+        ensures secures { SecuresFor (asking (A.builds asker.now) A.may_wait (polling
+            Tr.Conn.PollConn)) self.old self.new result }
     {
         if self.transport.make_room().is_err() {
             return Poll::Ready(Err(AllocError));

@@ -52,7 +52,8 @@ impl<Tr: Network> Machine<Tr> {
         ensures net { self.new.net ≡ self.old.net }
         ensures end { Tr.Conn.tells → Tr.Conn.may_wait →
             EndsAsTold self.old.channel.ended self.new.channel.ended self.old.channel.told }
-        ensures breaks { BreaksOff (asking (A.builds asker.now) A.may_wait (polling Tr.Conn.PollConn)) (coding_of E.decoded E.encoded encoding.now) call.now
+        ensures breaks { BreaksOff (asking (A.builds asker.now) A.may_wait (polling
+            Tr.Conn.PollConn)) (coding_of E.decoded E.encoded encoding.now) call.now
             (Stage.Resyncing turn resyncing) stage.new self.old self.new result }
     {
         match resyncing {
@@ -79,7 +80,8 @@ impl<Tr: Network> Machine<Tr> {
         ensures moves { result ≡ Step.Pending → ⊥ }
         ensures net { self.new.net ≡ self.old.net }
         ensures end { self.new.channel.ended ≡ self.old.channel.ended }
-        ensures breaks { BreaksOff (asking (A.builds _asker.now) A.may_wait (polling Tr.Conn.PollConn)) (coding_of E.decoded E.encoded encoding.now) call.now
+        ensures breaks { BreaksOff (asking (A.builds _asker.now) A.may_wait (polling
+            Tr.Conn.PollConn)) (coding_of E.decoded E.encoded encoding.now) call.now
             (Stage.Resyncing turn Resyncing.Wording) stage.new self.old self.new result }
     {
         if self.is_beside() {
@@ -126,7 +128,8 @@ impl<Tr: Network> Machine<Tr> {
         ensures end { Tr.Conn.tells → Tr.Conn.may_wait →
             EndsAsTold self.old.channel.ended self.new.channel.ended self.old.channel.told }
         ensures breaks { (coding : Coding) →
-            BreaksOff (asking (A.builds asker.now) A.may_wait (polling Tr.Conn.PollConn)) coding call.now
+            BreaksOff (asking (A.builds asker.now) A.may_wait (polling Tr.Conn.PollConn)) coding
+            call.now
             (Stage.Resyncing turn (Resyncing.Sending line)) stage.new self.old self.new result }
     {
         match self.say(asker, &mut line, w) {
@@ -165,7 +168,8 @@ impl<Tr: Network> Machine<Tr> {
         ensures end { Tr.Conn.tells → Tr.Conn.may_wait →
             EndsAsTold self.old.channel.ended self.new.channel.ended self.old.channel.told }
         ensures breaks { (coding : Coding) →
-            BreaksOff (asking (A.builds asker.now) A.may_wait (polling Tr.Conn.PollConn)) coding call.now
+            BreaksOff (asking (A.builds asker.now) A.may_wait (polling Tr.Conn.PollConn)) coding
+            call.now
             (Stage.Resyncing turn (Resyncing.Seeking left)) stage.new self.old self.new result }
     {
         match self.hear(asker, alloc, &[Status::CommandOk], w) {

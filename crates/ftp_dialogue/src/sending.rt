@@ -38,8 +38,10 @@ impl<Tr: Network> Machine<Tr> {
         requires of { MayFetch _call.now Whole }
         ensures moves { result ≡ Step.Pending → ⊥ }
         ensures end { self.new.channel.ended ≡ self.old.channel.ended }
-        ensures breaks { (coding : Coding) → BreaksOff (asking (A.builds _asker.now) A.may_wait (polling Tr.Conn.PollConn)) coding _call.now
-            (Stage.Transferring (Transferring.Starting (Store bytes))) stage.new self.old self.new result }
+        ensures breaks { (coding : Coding) → BreaksOff (asking (A.builds _asker.now) A.may_wait
+            (polling Tr.Conn.PollConn)) coding _call.now
+            (Stage.Transferring (Transferring.Starting (Store bytes))) stage.new self.old self.new
+            result }
     {
         let text = self.state.settings.text;
         match size_to_send(text, bytes.as_slice()) {
@@ -73,8 +75,10 @@ impl<Tr: Network> Machine<Tr> {
         requires may { A.may_ask }
         ensures waits { result ≡ Step.Pending → A.may_wait }
         ensures end { self.new.channel.ended ≡ self.old.channel.ended }
-        ensures breaks { (coding : Coding) → BreaksOff (asking (A.builds asker.now) A.may_wait (polling Tr.Conn.PollConn)) coding _call.now
-            (Stage.Transferring (Transferring.Sending left total unsent)) stage.new self.old self.new result }
+        ensures breaks { (coding : Coding) → BreaksOff (asking (A.builds asker.now) A.may_wait
+            (polling Tr.Conn.PollConn)) coding _call.now
+            (Stage.Transferring (Transferring.Sending left total unsent)) stage.new self.old
+            self.new result }
     {
         if unsent.is_empty() {
             let answer = Answer::Count(total);
@@ -123,7 +127,8 @@ impl<Tr: Network> Machine<Tr> {
         requires may { A.may_ask }
         ensures end { self.new.channel.ended ≡ self.old.channel.ended }
         ensures state { self.new.state ≡ self.old.state }
-        ensures sends { Sends (asking (A.builds asker.now) A.may_wait (polling Tr.Conn.PollConn)) unsent.old unsent.new self.old self.new result }
+        ensures sends { Sends (asking (A.builds asker.now) A.may_wait (polling Tr.Conn.PollConn))
+            unsent.old unsent.new self.old self.new result }
     {
         let Some(conn) = &mut self.data_conn else {
             unreachable!();

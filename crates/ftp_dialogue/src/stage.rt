@@ -9,7 +9,7 @@ ghost use Rattle.ftp_base.specs.Command.{text_of};
 ghost use Rattle.ftp_base.specs.Wire.{wire};
 ghost use Rattle.ftp_control.specs.Refusal.{IsRefusalOf};
 ghost use Rattle.ftp_dialogue.specs.Coding.{coding_of};
-ghost use Rattle.ftp_dialogue.specs.Steps.Stages.{Begins, FirstNode, GoesOnTo, TurnOf, is_later};
+ghost use Rattle.ftp_dialogue.specs.Steps.Stages.{Begins, FirstNode, GoesOnTo, TurnOf, falling_back, is_later};
 
 use super::gathered::Gathered;
 use super::unsent::Unsent;
@@ -97,6 +97,8 @@ pub enum Resyncing {
 pub enum OpeningData {
     /// It begins, for a transfer at this offset.
     Negotiating(u64),
+    /// The peer's address is looked up, for how the server is asked.
+    Choosing(u64),
     /// The address of this end of the control connection is looked up.
     Locating(u64),
     /// The transport is asked to listen at this address.
@@ -164,6 +166,16 @@ pub(super) fn go_on(call: &Call, turn: Turn, stage: &mut Stage) -> Step
     }
 }
 
+/// The turn at which `PASV` follows a refusal of `EPSV`.
+pub(super) fn falling_back(turn: Turn) -> Turn
+    ensures { result ≡ falling_back turn }
+{
+    match turn {
+        Turn::ExtendedPassive(offset, _tries) => Turn::Passive(offset, true),
+        other => other,
+    }
+}
+
 /// The first node of a row: its line, its reply, or a change of settings.
 ///
 /// # Errors
@@ -223,11 +235,8 @@ pub(super) fn is_later(turn: Turn) -> bool
 {
     match turn {
         Turn::Second | Turn::Restart(_) | Turn::Aborted => true,
-        Turn::First
-        | Turn::Passive(_)
-        | Turn::ExtendedPassive(_)
-        | Turn::Active(..)
-        | Turn::Closed(_) => false,
+        Turn::Passive(_offset, after) => after,
+        Turn::First | Turn::ExtendedPassive(..) | Turn::Active(..) | Turn::Closed(_) => false,
     }
 }
 

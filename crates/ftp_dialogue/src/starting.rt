@@ -44,7 +44,8 @@ impl<Tr: Network> Machine<Tr> {
         requires channel { is_local call.now ≡ false }
         requires blocks { A.may_wait → ⊥ }
         ensures answers { (refusal_of call.now self.old ≡ Lacking → ⊥) → MayAnswer call.now result }
-        ensures made { Made (asking (A.builds asker.now) A.may_wait (blocking Tr.Conn.Conn)) (coding_of E.decoded E.encoded encoding.now) call.now
+        ensures made { Made (asking (A.builds asker.now) A.may_wait (blocking Tr.Conn.Conn))
+            (coding_of E.decoded E.encoded encoding.now) call.now
             self.old self.new result }
     {
         if let Some(answer) = self.refuse(call) {
@@ -70,7 +71,8 @@ impl<Tr: Network> Machine<Tr> {
         ensures begun { begun_at result ≡ false }
         ensures at { result ≡ first_stage call.now self.old.state }
         ensures enters { (coding : Coding) →
-            remaining coding call.now self.new.state result ≡ dialogue coding call.now self.old.state }
+            remaining coding call.now self.new.state result ≡ dialogue coding call.now
+            self.old.state }
     {
         if negotiates(call) {
             let offset = mem::replace(&mut self.state.settings.restart_offset, 0);
@@ -99,7 +101,8 @@ impl<Tr: Network> Machine<Tr> {
         ensures at { stage.new ≡ entered_stage call.now stage.old self.old.state }
         ensures begun { begun_at stage.new ≡ begun_at stage.old }
         ensures enters { (coding : Coding) →
-            remaining coding call.now self.new.state stage.new ≡ entered_tree coding call.now stage.old self.old.state }
+            remaining coding call.now self.new.state stage.new ≡ entered_tree coding call.now
+            stage.old self.old.state }
     {
         if is_first(stage) {
             let first = self.enter(call);
@@ -126,7 +129,9 @@ impl<Tr: Network> Machine<Tr> {
         requires may { negotiates call.now ≡ true → A.may_ask }
         requires channel { is_local call.now ≡ false }
         ensures stage { result ≡ poll.Pending → StageOf call.now stage.new }
-        ensures starts { StartsTo (asking (A.builds asker.now) A.may_wait (polling Tr.Conn.PollConn)) Tr.Conn.may_wait (coding_of E.decoded E.encoded encoding.now) call.now stage.old
+        ensures starts { StartsTo (asking (A.builds asker.now) A.may_wait (polling
+            Tr.Conn.PollConn)) Tr.Conn.may_wait (coding_of E.decoded E.encoded encoding.now)
+            call.now stage.old
             stage.new self.old self.new result }
     {
         if let Some(answer) = self.refuse_at(call, stage) {
@@ -180,17 +185,22 @@ impl<Tr: Network> Machine<Tr> {
         requires going { self.old.channel.failed ≡ false }
         ensures stage { result ≡ poll.Pending → StageOf call.now stage.new }
         ensures polls { let coding = coding_of E.decoded E.encoded encoding.now in
-            PollsTo (asking (A.builds asker.now) A.may_wait (polling Tr.Conn.PollConn)) (begun_at stage.old)
+            PollsTo (asking (A.builds asker.now) A.may_wait (polling Tr.Conn.PollConn)) (begun_at
+            stage.old)
             (entered_tree coding call.now stage.old self.old.state)
             (remaining coding call.now (entered_state call.now stage.old self.old.state) stage.new)
             (entered_at call.now stage.old self.old) self.new result }
         ensures rests { result ≡ poll.Pending → is_read call.now ≡ true →
-            Rests (asking (A.builds asker.now) A.may_wait (polling Tr.Conn.PollConn)) self.old self.new }
+            Rests (asking (A.builds asker.now) A.may_wait (polling Tr.Conn.PollConn)) self.old
+            self.new }
         ensures begun { result ≡ poll.Pending →
             let coding = coding_of E.decoded E.encoded encoding.now in
-            HasBegun (asking (A.builds asker.now) A.may_wait (polling Tr.Conn.PollConn)) (begun_at stage.old) (begun_at stage.new)
-            (entered_tree coding call.now stage.old self.old.state) (entered_at call.now stage.old self.old) self.new }
-        ensures fails { self.new.channel.failed ≡ true → (self.old.channel.failed ≡ true) ⊎ HasFault (polled_answer result) }
+            HasBegun (asking (A.builds asker.now) A.may_wait (polling Tr.Conn.PollConn)) (begun_at
+            stage.old) (begun_at stage.new)
+            (entered_tree coding call.now stage.old self.old.state) (entered_at call.now stage.old
+            self.old) self.new }
+        ensures fails { self.new.channel.failed ≡ true → (self.old.channel.failed ≡ true) ⊎ HasFault
+            (polled_answer result) }
         ensures end { Tr.Conn.tells → Tr.Conn.may_wait →
             EndsAsTold self.old.channel.ended self.new.channel.ended self.old.channel.told }
     {

@@ -18,7 +18,8 @@ use super::asks::Asks;
 use super::machine::Machine;
 use super::nodes::{Accepted, accept, conclude_fault, wants_memory};
 use super::stage::{
-    Aborting, Awaits, OpeningData, Stage, Step, Transferring, begin, go_on, go_to, is_later,
+    Aborting, Awaits, OpeningData, Stage, Step, Transferring, begin, falling_back, go_on, go_to,
+    is_later,
 };
 use super::{Answer, Call};
 use ftp_base::encoding::Encoding;
@@ -48,22 +49,27 @@ impl<Tr: Network> Machine<Tr> {
         requires may { negotiates call.now ≡ true → A.may_ask }
         ensures stage { StageAfter call.now stage.new result }
         ensures waits { result ≡ Step.Pending → Tr.Conn.may_wait ⊎ A.may_wait }
-        ensures net { negotiates call.now ≡ false → finishes call.now ≡ false → self.new.net ≡ self.old.net }
+        ensures net { negotiates call.now ≡ false → finishes call.now ≡ false → self.new.net ≡
+            self.old.net }
         ensures end { Tr.Conn.tells → Tr.Conn.may_wait →
             EndsAsTold self.old.channel.ended self.new.channel.ended self.old.channel.told }
         ensures answers { StepAnswers call.now result }
         ensures fewer { result ≡ Step.Next → nodes_left stage.new < nodes_left stage.old }
         ensures steps { let coding = coding_of E.decoded E.encoded encoding.now in
-            Steps (asking (A.builds asker.now) A.may_wait (polling Tr.Conn.PollConn)) (begun_at stage.old)
+            Steps (asking (A.builds asker.now) A.may_wait (polling Tr.Conn.PollConn)) (begun_at
+            stage.old)
             (remaining coding call.now self.old.state stage.old)
             (remaining coding call.now self.old.state stage.new) self.old self.new result }
-        ensures quiet { Quiet (asking (A.builds asker.now) A.may_wait (polling Tr.Conn.PollConn)) (coding_of E.decoded E.encoded encoding.now) call.now stage.old
+        ensures quiet { Quiet (asking (A.builds asker.now) A.may_wait (polling Tr.Conn.PollConn))
+            (coding_of E.decoded E.encoded encoding.now) call.now stage.old
             stage.new self.old self.new result }
         ensures begun { let coding = coding_of E.decoded E.encoded encoding.now in
-            Tracks (asking (A.builds asker.now) A.may_wait (polling Tr.Conn.PollConn)) (begun_at stage.old) (begun_at stage.new)
+            Tracks (asking (A.builds asker.now) A.may_wait (polling Tr.Conn.PollConn)) (begun_at
+            stage.old) (begun_at stage.new)
             (remaining coding call.now self.old.state stage.old) self.old self.new result }
         ensures rests { result ≡ Step.Pending → is_read call.now ≡ true →
-            Rests (asking (A.builds asker.now) A.may_wait (polling Tr.Conn.PollConn)) self.old self.new }
+            Rests (asking (A.builds asker.now) A.may_wait (polling Tr.Conn.PollConn)) self.old
+            self.new }
     {
         match mem::replace(stage, Stage::At(Turn::First)) {
             Stage::At(turn) => self.begin_exchange(alloc, encoding, call, turn, stage),
@@ -147,11 +153,14 @@ impl<Tr: Network> Machine<Tr> {
         ensures answers { (call : Call) → StepAnswers call result }
         ensures fewer { result ≡ Step.Next →
             nodes_left stage.new < nodes_left (Stage.Saying line awaits) }
-        ensures steps { (coding : Coding) (call : Call) → Steps (asking (A.builds asker.now) A.may_wait (polling Tr.Conn.PollConn))
-            (begun_at (Stage.Saying line awaits)) (remaining coding call self.old.state (Stage.Saying line awaits))
+        ensures steps { (coding : Coding) (call : Call) → Steps (asking (A.builds asker.now)
+            A.may_wait (polling Tr.Conn.PollConn))
+            (begun_at (Stage.Saying line awaits)) (remaining coding call self.old.state
+            (Stage.Saying line awaits))
             (remaining coding call self.old.state stage.new) self.old self.new result }
         ensures goes_on { result ≡ Step.Next → begun_at stage.new ≡ true }
-        ensures begun { (tree : Tree) → Tracks (asking (A.builds asker.now) A.may_wait (polling Tr.Conn.PollConn)) (begun_at (Stage.Saying line awaits))
+        ensures begun { (tree : Tree) → Tracks (asking (A.builds asker.now) A.may_wait (polling
+            Tr.Conn.PollConn)) (begun_at (Stage.Saying line awaits))
             (begun_at stage.new) tree self.old self.new result }
     {
         match self.say(asker, &mut line, w) {
@@ -199,9 +208,12 @@ impl<Tr: Network> Machine<Tr> {
             (remaining coding call.now self.old.state stage.new) self.old self.new result }
         ensures goes_on { result ≡ Step.Next → begun_at stage.new ≡ true }
         ensures begun { let coding = coding_of E.decoded E.encoded encoding.now in
-            Tracks (asking (A.builds asker.now) A.may_wait (polling Tr.Conn.PollConn)) awaits.begun (begun_at stage.new)
-            (remaining coding call.now self.old.state (Stage.Hearing awaits)) self.old self.new result }
-        ensures rests { result ≡ Step.Pending → Rests (asking (A.builds asker.now) A.may_wait (polling Tr.Conn.PollConn)) self.old self.new }
+            Tracks (asking (A.builds asker.now) A.may_wait (polling Tr.Conn.PollConn)) awaits.begun
+            (begun_at stage.new)
+            (remaining coding call.now self.old.state (Stage.Hearing awaits)) self.old self.new
+            result }
+        ensures rests { result ≡ Step.Pending → Rests (asking (A.builds asker.now) A.may_wait
+            (polling Tr.Conn.PollConn)) self.old self.new }
     {
         match self.hear_codes(asker, alloc, &awaits.hears, w) {
             Poll::Ready(Ok(reply)) => self.accept_reply(
@@ -251,6 +263,11 @@ impl<Tr: Network> Machine<Tr> {
                 );
                 Step::Next
             }
+            Accepted::FallsBack => {
+                self.failures.note_refused_epsv();
+                go_to(stage, Stage::At(falling_back(awaits.turn)));
+                Step::Next
+            }
             Accepted::Performs(task) => {
                 go_to(stage, Stage::Transferring(Transferring::Starting(task)));
                 Step::Next
@@ -296,18 +313,22 @@ impl<Tr: Network> Machine<Tr> {
         requires may { negotiates call.now ≡ true → A.may_ask }
         ensures stage { result ≡ poll.Pending → StageOf call.now stage.new }
         ensures waits { result ≡ poll.Pending → Tr.Conn.may_wait ⊎ A.may_wait }
-        ensures net { negotiates call.now ≡ false → finishes call.now ≡ false → self.new.net ≡ self.old.net }
+        ensures net { negotiates call.now ≡ false → finishes call.now ≡ false → self.new.net ≡
+            self.old.net }
         ensures end { Tr.Conn.tells → Tr.Conn.may_wait →
             EndsAsTold self.old.channel.ended self.new.channel.ended self.old.channel.told }
         ensures answers { PollAnswers call.now result }
         ensures rests { result ≡ poll.Pending → is_read call.now ≡ true →
-            Rests (asking (A.builds asker.now) A.may_wait (polling Tr.Conn.PollConn)) self.old self.new }
+            Rests (asking (A.builds asker.now) A.may_wait (polling Tr.Conn.PollConn)) self.old
+            self.new }
         ensures begun { result ≡ poll.Pending →
             let coding = coding_of E.decoded E.encoded encoding.now in
-            HasBegun (asking (A.builds asker.now) A.may_wait (polling Tr.Conn.PollConn)) (begun_at stage.old) (begun_at stage.new)
+            HasBegun (asking (A.builds asker.now) A.may_wait (polling Tr.Conn.PollConn)) (begun_at
+            stage.old) (begun_at stage.new)
             (remaining coding call.now self.old.state stage.old) self.old self.new }
         ensures polls { let coding = coding_of E.decoded E.encoded encoding.now in
-            PollSteps (asking (A.builds asker.now) A.may_wait (polling Tr.Conn.PollConn)) (begun_at stage.old)
+            PollSteps (asking (A.builds asker.now) A.may_wait (polling Tr.Conn.PollConn)) (begun_at
+            stage.old)
             (remaining coding call.now self.old.state stage.old)
             (remaining coding call.now self.old.state stage.new) self.old self.new result }
     {

@@ -89,7 +89,8 @@ impl Unsent {
         requires some { 0 < length self.old }
         requires may { A.may_ask }
         ensures waits { result ≡ Ok poll.Pending → A.may_wait }
-        ensures sends { SendsBy Tr.Conn.tells self.old self.new (Tr.Conn.told conn.old) (Tr.Conn.told conn.new) result }
+        ensures sends { SendsBy Tr.Conn.tells self.old self.new (Tr.Conn.told conn.old)
+            (Tr.Conn.told conn.new) result }
     {
         match asker.write(conn, w, self.piece())? {
             Poll::Pending => Ok(Poll::Pending),
@@ -155,7 +156,8 @@ fn plain_front(text: bool, bytes: &[u8]) -> usize
     requires some { 0 < length bytes.now }
     ensures some { 0 < result }
     ensures within { result ≤ length bytes.now }
-    ensures plain { (after : Bool) → MayEnd text after bytes.now → IsPlain text after result bytes.now }
+    ensures plain { (after : Bool) → MayEnd text after bytes.now → IsPlain text after result
+        bytes.now }
 {
     if !text {
         bytes.len()

@@ -71,10 +71,13 @@ fn open_run(row: &[bool], text: &[char], least: usize, most: usize) -> Option<us
     requires covers { length text.now < length row.now }
     requires within { most ≤ length text.now }
     ensures none { MatchOption result
-        ((n : ℕ) → least ≤ n → n ≤ most → slice_index_or row.now (length text.now - n) false ≡ false)
-        (λ n. (least ≤ n) × (n ≤ most) × (slice_index_or row.now (length text.now - n) false ≡ true)) }
+        ((n : ℕ) → least ≤ n → n ≤ most → slice_index_or row.now (length text.now - n) false ≡
+        false)
+        (λ n. (least ≤ n) × (n ≤ most) × (slice_index_or row.now (length text.now - n) false ≡
+        true)) }
     ensures greatest { MatchOption result ⊤
-        (λ n. (m : ℕ) → n < m → m ≤ most → slice_index_or row.now (length text.now - m) false ≡ false) }
+        (λ n. (m : ℕ) → n < m → m ≤ most → slice_index_or row.now (length text.now - m) false ≡
+        false) }
 {
     let mut count = most;
     'down: loop {

@@ -79,7 +79,8 @@ fn splits_with(shape: Shape, text: &[char], next: &[bool], shorter: bool) -> boo
 fn splits_with_one_or_more(class: Class, text: &[char], next: &[bool], shorter: bool) -> bool
     requires { length text.now < length next.now }
     ensures { (shapes : List AnyShape) → TellsAll next.now shapes text.now
-        → (0 < length text.now → Tells shorter (AnyShape.OneOrMore class ∷ shapes) (drop 1 text.now))
+        → (0 < length text.now → Tells shorter (AnyShape.OneOrMore class ∷ shapes) (drop 1
+        text.now))
         → Tells result (AnyShape.OneOrMore class ∷ shapes) text.now }
 {
     if text.is_empty() {
@@ -91,7 +92,8 @@ fn splits_with_one_or_more(class: Class, text: &[char], next: &[bool], shorter: 
 fn splits_with_any_number(class: Class, text: &[char], next: &[bool], shorter: bool) -> bool
     requires { length text.now < length next.now }
     ensures { (shapes : List AnyShape) → TellsAll next.now shapes text.now
-        → (0 < length text.now → Tells shorter (AnyShape.AnyNumber class ∷ shapes) (drop 1 text.now))
+        → (0 < length text.now → Tells shorter (AnyShape.AnyNumber class ∷ shapes) (drop 1
+        text.now))
         → Tells result (AnyShape.AnyNumber class ∷ shapes) text.now }
 {
     if text.is_empty() {

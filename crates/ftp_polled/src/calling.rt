@@ -96,6 +96,7 @@ where
         };
         match polled {
             Poll::Ready(answer) => {
+                session.settle_mode();
                 self.hold.let_go();
                 Poll::Ready(answer)
             }

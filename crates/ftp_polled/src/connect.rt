@@ -7,7 +7,7 @@ use crate::client::ImplAsyncFtpStream;
 use crate::from_answer::FromAnswer;
 use crate::waiting::wait;
 use ftp_base::encoding::Encoding;
-use ftp_base::types::{ConnectionError, FtpError, FtpResult};
+use ftp_base::types::{ConnectionError, FtpError, FtpResult, Mode};
 use ftp_secure::SecureNetwork;
 use ftp_session::session::{Call, PolledCall, PollsCalls, Session, secure_data};
 use ftp_transport::{
@@ -37,6 +37,8 @@ where
     tried: Tried,
     // Whether replies are read leniently.
     lenient: bool,
+    // Who is to open data connections.
+    mode: Mode,
     // Whether the connection is put under TLS before the greeting, by the connector that the transport keeps.
     secures: bool,
     // Whether that has begun, and waits.
@@ -59,6 +61,7 @@ where
             limit: _,
             tried: _,
             lenient: _,
+            mode: _,
             secures: _,
             shakes: _,
             session,
@@ -100,6 +103,7 @@ where
             limit,
             tried: Tried { count: 0, fault },
             lenient,
+            mode: Mode::Passive,
             secures: false,
             shakes: false,
             session: None,
@@ -124,6 +128,7 @@ where
                 fault: ConnectionError::NoAddress,
             },
             lenient: false,
+            mode: Mode::Passive,
             secures: false,
             shakes: false,
             session,
@@ -203,6 +208,7 @@ where
             return Err(FtpError::ConnectionError(ConnectionError::AlreadyCompleted));
         };
         let mut session = session_on(self.rt.alloc(), transport, conn, self.lenient)?;
+        session.set_mode(self.mode);
         if self.secures {
             secure_data(&mut session);
         }
@@ -324,7 +330,7 @@ where
 
     /// The same of an address as text, as `192.0.2.7:21`, `[2001:db8::7]:21` or `ftp.example.org:21`: a host and a port,
     /// which is 21 of most servers (RFC 959, section 5.2). A name is looked up by this call itself, for which its thread
-    /// waits; the state tries its addresses in turn.
+    /// waits; the future tries its addresses in turn. The client begins in `Mode::Automatic`.
     ///
     /// # Errors
     /// Those of `connect`; before them the error of the look-up, or `Io(InvalidInput)` where the text is no address.
@@ -343,6 +349,27 @@ where
         let addresses: Result<Vec<SocketAddr>, AllocError> = found.collect(rt.alloc());
         let mut connect = ImplAsyncFtpStream::connect(rt, transport, &[]);
         connect.addresses = addresses.ok();
+        connect.mode = Mode::Automatic;
+        connect
+    }
+
+    /// The same, where each connect is made within this time. How long reads and writes may wait the transport says
+    /// (`TokioTransport::of_runtime_with_limits`); the look-up of a name has no limit.
+    ///
+    /// # Errors
+    /// Those of `connect_to`; `TimedOut` where the time has passed, or is zero.
+    pub fn connect_to_within<'r, R: Net + AllocGlobal>(
+        rt: &'r R,
+        transport: Tr,
+        address: &str,
+        limit: Duration,
+    ) -> Connect<'r, R, Tr, K, E, B> {
+        let mut connect = ImplAsyncFtpStream::connect_to(rt, transport, address);
+        connect.limit = Some(limit);
+        if limit.is_zero() {
+            connect.addresses = Some(Vec::new(rt.alloc()));
+            connect.tried.fault = ConnectionError::TimedOut;
+        }
         connect
     }
 

@@ -149,6 +149,7 @@ where
         };
         match session.poll_call(alloc, self.rt, call, &mut ()) {
             Poll::Ready(answer) => {
+                session.settle_mode();
                 Poll::Ready(session.hand_over(mark, answer, self.replies, self.direction))
             }
             Poll::Pending => {

@@ -62,7 +62,7 @@ use Rattle.ftp_dialogue.proofs.ResyncLemmas.{seeking_is}
 use Rattle.ftp_calls.specs.declared.call.Answer.TheVariants.{Fault}
 use Rattle.ftp_dialogue.specs.Dialogue.{Leaf}
 use Rattle.ftp_dialogue.specs.Sound.{cannot_open}
-use Rattle.ftp_dialogue.specs.Dialogue.{opening_data, at_port, closing, entered, opened_from, told_of_close, with_left, from_turn, negotiating, negotiating_unless, on_address, Expected, expected_of, Tree, Say, Hear, saying, awaiting, doing, later, dialogue, closing_data, aborting, breaking_off}
+use Rattle.ftp_dialogue.specs.Dialogue.{opening_data, is_ipv4, at_port, closing, entered, opened_from, told_of_close, with_left, from_turn, negotiating, negotiating_unless, on_address, Expected, expected_of, Tree, Say, Hear, saying, awaiting, doing, later, dialogue, closing_data, aborting, breaking_off}
 use Rattle.ftp_dialogue.specs.Play.{ended, finally, play, fits, heard_then, needs_data}
 use Rattle.ftp_dialogue.specs.declared.model.Played.{Played}
 use Rattle.ftp_dialogue.specs.Lenient.{SameForm, SaysNothingYet, first_form, heard_form}
@@ -191,8 +191,12 @@ module _ (builds : Builds) (coding : Coding) (outcomes : List NetOutcome) where
 
     resumes_mode : (m : Mode) (offset : ℕ) (state : State) → SaysNothingYet modes.setting Plain kept → Resumes modes kept (opening_data m coding call offset state)
     resumes_mode mode.Active offset state waits = λ local answer. resumes_bound offset state local waits answer
-    resumes_mode mode.Passive offset state waits = resumes_row (Passive offset) state waits
-    resumes_mode mode.ExtendedPassive offset state waits = resumes_row (ExtendedPassive offset) state waits
+    resumes_mode mode.Passive offset state waits = resumes_row (Passive offset false) state waits
+    resumes_mode mode.ExtendedPassive offset state waits = resumes_row (ExtendedPassive offset false) state waits
+    resumes_mode mode.Automatic offset state waits = λ peer. elim (is_ipv4 peer) as (λ tries. Resumes modes kept (from_turn coding call (ExtendedPassive offset tries) state)) [
+      | true ↦ resumes_row (ExtendedPassive offset true) state waits
+      | false ↦ resumes_row (ExtendedPassive offset false) state waits
+    ]
 
     resumes_unless : (cannot : Option FtpError) (offset : ℕ) (state : State) → SaysNothingYet modes.setting Plain kept → Resumes modes kept (negotiating_unless cannot coding call offset state)
     resumes_unless (Some fault) offset state waits = tt
@@ -222,8 +226,8 @@ module _ (builds : Builds) (coding : Coding) (outcomes : List NetOutcome) where
   settled_state call (Aborting abort) state stage_of = refl
   settled_state call (Transferring fetching) state stage_of = refl
   settled_state call (At Second) state stage_of = refl
-  settled_state call (At (Passive offset)) state stage_of = refl
-  settled_state call (At (ExtendedPassive offset)) state stage_of = refl
+  settled_state call (At (Passive offset after)) state stage_of = refl
+  settled_state call (At (ExtendedPassive offset tries)) state stage_of = refl
   settled_state call (At (Active address offset)) state stage_of = refl
   settled_state call (At (Restart offset)) state stage_of = refl
   settled_state call (Saying line a) state stage_of = refl
@@ -240,8 +244,8 @@ module _ (builds : Builds) (coding : Coding) (outcomes : List NetOutcome) where
   settled_tree call (Aborting abort) state stage_of = refl
   settled_tree call (Transferring fetching) state stage_of = refl
   settled_tree call (At Second) state stage_of = refl
-  settled_tree call (At (Passive offset)) state stage_of = refl
-  settled_tree call (At (ExtendedPassive offset)) state stage_of = refl
+  settled_tree call (At (Passive offset after)) state stage_of = refl
+  settled_tree call (At (ExtendedPassive offset tries)) state stage_of = refl
   settled_tree call (At (Active address offset)) state stage_of = refl
   settled_tree call (At (Restart offset)) state stage_of = refl
   settled_tree call (Saying line a) state stage_of = refl

@@ -3,7 +3,7 @@ use Rattle.std.proofs.Common.{◌≡◌, ℕ, zero, suc, Bool, true, false, ◌&
 use Rattle.std.specs.Net.Socket.{socket_port}
 use Rattle.std.specs.declared.net.socket_addr.SocketAddr.{SocketAddr}
 use Rattle.ftp_base.specs.Status.{code_of, status_of}
-use Rattle.ftp_base.specs.declared.status.Status.TheVariants.{TransferAborted}
+use Rattle.ftp_base.specs.declared.status.Status.TheVariants.{TransferAborted, PassiveMode}
 use Rattle.ftp_base.specs.declared.command.Command.{Command}
 use Rattle.ftp_base.specs.declared.command.Command.TheVariants as command
 use Rattle.ftp_base.specs.Command.{text_of}
@@ -43,7 +43,7 @@ use Rattle.ftp_calls.specs.declared.exchange.Turn.{Turn}
 use Rattle.ftp_calls.specs.declared.exchange.Turn.TheVariants.{First, Second, Passive, ExtendedPassive, Active, Restart, Closed, Aborted}
 use Rattle.ftp_dialogue.specs.Coding.{Coding}
 use Rattle.ftp_dialogue.specs.NetEvents.{answers, constructed, after_request, moved, secured}
-use Rattle.ftp_dialogue.specs.Dialogue.{Here, There, Tree, Say, Hear, Look, Ask, Build, Secure, Move, Leaf, aborting, accepted, accepting, admitting, after_fault_of, at_port, breaking_off, carrying, closed_as, closing, closing_data, concluded, connecting_to, connecting_to_peer, dialogue, doing, entered, expected_of, fetch_closing_data, fetch_concluded, fetched, from_turn, gathering, last_turn, later, lets_in, listening, most_reads, moved_answer, negotiating, negotiating_unless, on_address, on_built, on_connection, on_data, on_sent, opened_answer, opened_from, opening, opening_data, passing_over, performing, restart_turn, resyncing, saying, securing, seeking, sending, sending_all, size_to_send, sought, strangers, to_address, to_port, told_of_close, too_long, unfetched, wants_memory, with_abandoned, with_aborted, with_drained, with_fetched, with_finished, with_left, with_transfer, ends_search, most_passed_over}
+use Rattle.ftp_dialogue.specs.Dialogue.{Here, There, Tree, Say, Hear, Look, Ask, Build, Secure, Move, Leaf, aborting, accepted, accepting, admitting, after_fault_of, at_port, breaking_off, carrying, closed_as, closing, closing_data, concluded, connecting_to, connecting_to_peer, dialogue, doing, entered, expected_of, fetch_closing_data, fetch_concluded, fetched, from_turn, gathering, last_turn, later, lets_in, listening, most_reads, moved_answer, negotiating, negotiating_unless, on_address, on_built, on_connection, on_data, on_sent, opened_answer, opened_from, opening, opening_data, passing_over, performing, restart_turn, resyncing, saying, securing, seeking, sending, sending_all, size_to_send, sought, strangers, to_address, to_port, told_of_close, too_long, unfetched, wants_memory, with_abandoned, with_aborted, with_drained, with_fetched, with_finished, with_left, with_transfer, ends_search, most_passed_over, asking_passive, falls_back, on_passive, is_ipv4, expecting}
 use Rattle.ftp_base.specs.Ascii.{most_bytes, wire_data}
 use Rattle.ftp_dialogue.specs.Laws.{reached}
 use Rattle.ftp_dialogue.specs.Play.{Refusal, Taken, Lacking, Failing, asked_then, built_then, finally, fits, heard_then, lacks, leaving, moved_then, secured_then, play, play_call, play_unless, refusal, taken}
@@ -124,6 +124,7 @@ module _ (state : State) (even : IsEven state) where
   opening_even opened stays mode.Active = λ host. accepting_even (securing opened state) (securing_even opened stays) host strangers
   opening_even opened stays mode.Passive = securing_even opened stays
   opening_even opened stays mode.ExtendedPassive = securing_even opened stays
+  opening_even opened stays mode.Automatic = securing_even opened stays
 
   -- bytes on the data connection
   carrying_even : (m : Movement) → StaysEven (carrying m state)
@@ -243,7 +244,7 @@ module _ (state : State) (even : IsEven state) where
   fault_even (ending.GoesOn status) fault = even
   fault_even ending.Continues fault = even
   fault_even ending.GivesAddress fault = even
-  fault_even ending.GivesPort fault = even
+  fault_even (ending.GivesPort tries) fault = even
   fault_even (ending.Opens replies) fault = even
   fault_even (ending.Performs task) fault = even
 
@@ -259,11 +260,28 @@ module _ (state : State) (even : IsEven state) where
   port_even reply next stays (Err why) = even
   port_even reply next stays (Ok port) = peer_even port next stays
 
+  saying_even : (coding : Coding) (says : Option Command) (next : Tree) → StaysEven next → StaysEven (saying coding says next)
+  saying_even coding None next stays = stays
+  saying_even coding (Some one) next stays = line_even (wire coding.encode (text_of one))
+    where
+      line_even : (line : Result (List ℕ) ConnectionError) → StaysEven (Say line next)
+      line_even (Ok line) = stays
+      line_even (Err why) = tt
+
   -- an exchange
   module _ (coding : Coding) (after : State → Tree) (stays : StaysEven (after state)) where
     next_if : (b : Bool) (other : State) → IsEven other → StaysEven (cond b (after state) (Leaf answer.Unit other))
     next_if true other stays' = stays
     next_if false other stays' = stays'
+
+    -- the port to connect to; or EPSV was refused, and PASV follows
+    passive_even : (heard : Result Response FtpError) → StaysEven (on_passive state after heard)
+    passive_even (Ok reply) = told_even reply (after state) stays (passive_address_of reply.body)
+    passive_even (Err fault) = even
+
+    port_unless : (b : Bool) (reply : Response) → StaysEven (cond b (asking_passive coding state after) (to_port state reply (after state) (extended_port_of reply.body)))
+    port_unless true reply = saying_even coding (Some command.Pasv) (Hear (expecting (PassiveMode ∷ [])) (on_passive state after)) passive_even
+    port_unless false reply = port_even reply (after state) stays (extended_port_of reply.body)
 
     accepted_even : (how : Ending) (reply : Response) → StaysEven (accepted coding how state reply after)
     accepted_even ending.Done reply = even
@@ -279,7 +297,7 @@ module _ (state : State) (even : IsEven state) where
     accepted_even (ending.GoesOn status) reply = next_if (code_of reply.status == code_of status) state even
     accepted_even ending.Continues reply = stays
     accepted_even ending.GivesAddress reply = told_even reply (after state) stays (passive_address_of reply.body)
-    accepted_even ending.GivesPort reply = port_even reply (after state) stays (extended_port_of reply.body)
+    accepted_even (ending.GivesPort tries) reply = port_unless (falls_back tries reply) reply
     accepted_even (ending.Opens replies) reply = opening_even (Leaf (opened_answer replies reply) (with_transfer state)) even state.settings.mode
     accepted_even (ending.Performs task) reply = opening_even (performing coding task state) (performing_even coding task) state.settings.mode
     accepted_even (ending.Finishes close) reply = even
@@ -289,14 +307,6 @@ module _ (state : State) (even : IsEven state) where
     concluded_even : (how : Ending) (heard : Result Response FtpError) → StaysEven (concluded coding how state after heard)
     concluded_even how (Ok reply) = accepted_even how reply
     concluded_even how (Err fault) = fault_even how fault
-
-  saying_even : (coding : Coding) (says : Option Command) (next : Tree) → StaysEven next → StaysEven (saying coding says next)
-  saying_even coding None next stays = stays
-  saying_even coding (Some one) next stays = line_even (wire coding.encode (text_of one))
-    where
-      line_even : (line : Result (List ℕ) ConnectionError) → StaysEven (Say line next)
-      line_even (Ok line) = stays
-      line_even (Err why) = tt
 
   -- the reply to NOOP is sought
   sought_even : (others : Response → Tree) → ((reply : Response) → StaysEven (others reply)) → (heard : Result Response FtpError) → StaysEven (sought others state heard)
@@ -350,8 +360,8 @@ module _ (state : State) (even : IsEven state) where
     later_even : (turn : Turn) → StaysEven (later coding call turn state)
     later_even First = last_even
     later_even Second = even
-    later_even (Passive offset) = restart_even offset
-    later_even (ExtendedPassive offset) = restart_even offset
+    later_even (Passive offset after) = restart_even offset
+    later_even (ExtendedPassive offset tries) = restart_even offset
     later_even (Active address offset) = restart_even offset
     later_even (Restart offset) = last_even
     later_even (Closed close) = even
@@ -365,8 +375,9 @@ module _ (state : State) (even : IsEven state) where
 
     opening_data_even : (m : Mode) (offset : ℕ) → StaysEven (opening_data m coding call offset state)
     opening_data_even mode.Active offset = listening_even offset
-    opening_data_even mode.Passive offset = turn_even (Passive offset)
-    opening_data_even mode.ExtendedPassive offset = turn_even (ExtendedPassive offset)
+    opening_data_even mode.Passive offset = turn_even (Passive offset false)
+    opening_data_even mode.ExtendedPassive offset = turn_even (ExtendedPassive offset false)
+    opening_data_even mode.Automatic offset = λ peer. turn_even (ExtendedPassive offset (is_ipv4 peer))
 
     negotiating_even : (offset : ℕ) → StaysEven (negotiating coding call offset state)
     negotiating_even offset = go (cannot_open state.counts)

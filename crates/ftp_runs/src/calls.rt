@@ -47,12 +47,16 @@ where
     /// `OutOfMemory` where there is no memory for the answers, and nothing changes.
     fn run(&mut self, alloc: Global, rt: &R, calls: &[Call]) -> FtpResult<Vec<Answer>>
         ensures runs { IfOk result (λ answers.
-            Runs (asking (built_by B.answers self.old.builder) ⊥ (blocking Tr.Conn.Conn)) (chosen E.decoded E.encoded self.old.encoding.0) calls.now
+            Runs (asking (built_by B.answers self.old.builder) ⊥ (blocking Tr.Conn.Conn)) (chosen
+            E.decoded E.encoded self.old.encoding.0) calls.now
             (as_seen self.new.mark self.old.machine) self.new.machine answers.items) }
         ensures counts { IfOk result (λ answers.
-            CountsEach (are_due (as_seen self.new.mark self.old.machine)) (asking (built_by B.answers self.old.builder) ⊥ (blocking Tr.Conn.Conn)) (chosen E.decoded E.encoded self.old.encoding.0) calls.now
+            CountsEach (are_due (as_seen self.new.mark self.old.machine)) (asking (built_by
+            B.answers self.old.builder) ⊥ (blocking Tr.Conn.Conn)) (chosen E.decoded E.encoded
+            self.old.encoding.0) calls.now
             (as_seen self.new.mark self.old.machine) self.new.machine answers.items) }
-        ensures looks { OnOk result (LooksIf (watches self.old.mark self.old.machine) self.old.mark self.new.mark) }
+        ensures looks { OnOk result (LooksIf (watches self.old.mark self.old.machine) self.old.mark
+            self.new.mark) }
         ensures count { IfOk result (λ answers. length answers.items ≡ length calls.now) }
         ensures fails { IfOk result (λ answers.
             FailsWith (as_seen self.new.mark self.old.machine) self.new.machine answers.items) }
@@ -93,9 +97,11 @@ where
     Tr: Transport<R>,
     requires none { answers.items ≡ [] }
     requires room { length calls.now ≤ vec_capacity answers }
-    ensures runs { Runs (asking (built_by B.answers builder.now) ⊥ (blocking Tr.Conn.Conn)) (coding_of E.decoded E.encoded encoding.now) calls.now machine.old
+    ensures runs { Runs (asking (built_by B.answers builder.now) ⊥ (blocking Tr.Conn.Conn))
+        (coding_of E.decoded E.encoded encoding.now) calls.now machine.old
         machine.new result.items }
-    ensures counts { CountsEach (are_due machine.old) (asking (built_by B.answers builder.now) ⊥ (blocking Tr.Conn.Conn)) (coding_of E.decoded E.encoded encoding.now) calls.now machine.old
+    ensures counts { CountsEach (are_due machine.old) (asking (built_by B.answers builder.now) ⊥
+        (blocking Tr.Conn.Conn)) (coding_of E.decoded E.encoded encoding.now) calls.now machine.old
         machine.new result.items }
     ensures fails { FailsWith machine.old machine.new result.items }
     ensures count { length result.items ≡ length calls.now }
@@ -121,7 +127,8 @@ fn make_among<Tr: Network, R, E: Encoding, B: PassiveStreamBuilder<Tr::Conn>>(
 where
     Tr::Conn: Conn,
     Tr: Transport<R>,
-    ensures made { MadeAmong due (asking (built_by B.answers builder.now) ⊥ (blocking Tr.Conn.Conn)) (coding_of E.decoded E.encoded encoding.now)
+    ensures made { MadeAmong due (asking (built_by B.answers builder.now) ⊥ (blocking Tr.Conn.Conn))
+        (coding_of E.decoded E.encoded encoding.now)
         call.now machine.old machine.new result }
 {
     if due {
@@ -144,7 +151,8 @@ fn make_in_step<Tr: Network, R, E: Encoding, B: PassiveStreamBuilder<Tr::Conn>>(
 where
     Tr::Conn: Conn,
     Tr: Transport<R>,
-    ensures made { MadeInStep (asking (built_by B.answers builder.now) ⊥ (blocking Tr.Conn.Conn)) (coding_of E.decoded E.encoded encoding.now)
+    ensures made { MadeInStep (asking (built_by B.answers builder.now) ⊥ (blocking Tr.Conn.Conn))
+        (coding_of E.decoded E.encoded encoding.now)
         call.now machine.old machine.new result }
 {
     if machine.is_behind(call) {

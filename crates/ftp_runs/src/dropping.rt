@@ -23,7 +23,8 @@ pub(crate) fn drop_call<'e>(
     course: &mut Course,
 )
     ensures none { under_way.new ≡ None }
-    ensures drops { DropsCall (option_map (λ c. c.now) under_way.old) course.old stage.now machine.old machine.new course.new }
+    ensures drops { DropsCall (option_map (λ c. c.now) under_way.old) course.old stage.now
+        machine.old machine.new course.new }
 {
     let Some(call) = *under_way else {
         return;
@@ -57,7 +58,8 @@ pub(crate) fn leave_now<'e>(
     under_way: &Option<&'e Call>,
     course: &mut Course,
 )
-    ensures leaves { LeavesNow (option_map (λ c. c.now) under_way.now) course.old machine.old machine.new course.new }
+    ensures leaves { LeavesNow (option_map (λ c. c.now) under_way.now) course.old machine.old
+        machine.new course.new }
 {
     let Some(call) = *under_way else {
         leave_held(machine, alloc);

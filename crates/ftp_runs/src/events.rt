@@ -66,17 +66,23 @@ impl<K: Drop, E: Encoding, B: PassiveStreamBuilder<MemoryConn>> RunEvents
     /// and the events before it have happened.
     fn run_polled(&mut self, alloc: Global, events: &[Event]) -> FtpResult<Vec<Answer>>
         ensures scripted { IfOk result (λ answers.
-            IsScripted (built_by B.answers self.old.builder) (chosen E.decoded E.encoded self.old.encoding.0) (as_seen self.new.mark self.old.machine)
+            IsScripted (built_by B.answers self.old.builder) (chosen E.decoded E.encoded
+            self.old.encoding.0) (as_seen self.new.mark self.old.machine)
             events.now self.new.machine answers.items) }
         ensures counts { IfOk result (λ answers.
-            CountsEvents (built_by B.answers self.old.builder) None None events.now (as_seen self.new.mark self.old.machine) self.new.machine answers.items) }
-        ensures looks { OnOk result (LooksIf (watches self.old.mark self.old.machine) self.old.mark self.new.mark) }
+            CountsEvents (built_by B.answers self.old.builder) None None events.now (as_seen
+            self.new.mark self.old.machine) self.new.machine answers.items) }
+        ensures looks { OnOk result (LooksIf (watches self.old.mark self.old.machine) self.old.mark
+            self.new.mark) }
         ensures keeps { Keeps self.old self.new }
         ensures memory { IfErr result (λ fault. fault ≡ FtpError.OutOfMemory) }
-        ensures stops { OnErr result ((self.new ≡ self.old) ⊎ (LooksIf (watches self.old.mark self.old.machine) self.old.mark self.new.mark
-            × StopsAtFeed (built_by B.answers self.old.builder) (chosen E.decoded E.encoded self.old.encoding.0)
+        ensures stops { OnErr result ((self.new ≡ self.old) ⊎ (LooksIf (watches self.old.mark
+            self.old.machine) self.old.mark self.new.mark
+            × StopsAtFeed (built_by B.answers self.old.builder) (chosen E.decoded E.encoded
+            self.old.encoding.0)
             (as_seen self.new.mark self.old.machine) events.now self.new.machine)) }
-        ensures grows { Grows (built_by B.answers self.old.builder) (as_seen self.new.mark self.old.machine) self.new.machine }
+        ensures grows { Grows (built_by B.answers self.old.builder) (as_seen self.new.mark
+            self.old.machine) self.new.machine }
         ensures fails { IfOk result (λ answers.
             FailsWith (as_seen self.new.mark self.old.machine) self.new.machine answers.items) }
         ensures sound { Sound (Unit {0}) self.new.machine.channel
@@ -113,13 +119,16 @@ fn let_happen<E: Encoding, B: PassiveStreamBuilder<MemoryConn>>(
     requires given { IsGiven machine.old.channel.told }
     requires sound { IsSound (Unit {0}) machine.old.channel }
     ensures scripted { IfOk result (λ answers.
-        IsScripted (built_by B.answers builder.now) (coding_of E.decoded E.encoded encoding.now) machine.old events.now machine.new
+        IsScripted (built_by B.answers builder.now) (coding_of E.decoded E.encoded encoding.now)
+        machine.old events.now machine.new
         answers.items) }
-    ensures counts { IfOk result (λ answers. CountsEvents (built_by B.answers builder.now) None None events.now machine.old machine.new answers.items) }
+    ensures counts { IfOk result (λ answers. CountsEvents (built_by B.answers builder.now) None None
+        events.now machine.old machine.new answers.items) }
     ensures grows { Grows (built_by B.answers builder.now) machine.old machine.new }
     ensures fails { IfOk result (λ answers. FailsWith machine.old machine.new answers.items) }
     ensures memory { IfErr result (λ fault. fault ≡ FtpError.OutOfMemory) }
-    ensures stops { OnErr result (StopsAtFeed (built_by B.answers builder.now) (coding_of E.decoded E.encoded encoding.now) machine.old
+    ensures stops { OnErr result (StopsAtFeed (built_by B.answers builder.now) (coding_of E.decoded
+        E.encoded encoding.now) machine.old
         events.now machine.new) }
 {
     let mut under_way = None;
@@ -181,17 +190,21 @@ fn happen<'e, E: Encoding, B: PassiveStreamBuilder<MemoryConn>>(
     course: &mut Course,
 ) -> Result<Option<Answer>, AllocError>
     requires { StageIn (option_map (λ c. c.now) under_way.old) stage.old }
-    ensures unchanged { OnErr result ((machine.new ≡ machine.old) × (under_way.new ≡ under_way.old) × (stage.new ≡ stage.old)
+    ensures unchanged { OnErr result ((machine.new ≡ machine.old) × (under_way.new ≡ under_way.old)
+        × (stage.new ≡ stage.old)
         × (course.new ≡ course.old) × IsFeed event.now) }
     ensures stage { StageIn (option_map (λ c. c.now) under_way.new) stage.new }
     ensures failed { IfOk result (λ answer. FailedStays machine.old machine.new answer) }
     ensures fails { IfOk result (λ answer. FailsWith machine.old machine.new (given_answer answer)) }
     ensures passes { IfOk result (λ answer.
-        Passes (built_by B.answers builder.now) (coding_of E.decoded E.encoded encoding.now) machine.old machine.new
+        Passes (built_by B.answers builder.now) (coding_of E.decoded E.encoded encoding.now)
+        machine.old machine.new
         (option_map (λ c. c.now) under_way.old) (option_map (λ c. c.now) under_way.new)
         stage.old stage.new course.old course.new event.now answer) }
-    ensures causes { IfOk result (λ answer. CausesHere (built_by B.answers builder.now) event.now machine.old machine.new
-        (option_map (λ c. c.now) under_way.old) (option_map (λ c. c.now) under_way.new) stage.old stage.new answer) }
+    ensures causes { IfOk result (λ answer. CausesHere (built_by B.answers builder.now) event.now
+        machine.old machine.new
+        (option_map (λ c. c.now) under_way.old) (option_map (λ c. c.now) under_way.new) stage.old
+        stage.new answer) }
 {
     match event {
         Event::Feed(bytes) => machine.channel.feed(bytes.as_slice())?,
@@ -229,11 +242,13 @@ fn poll_in_step<'e, E: Encoding, B: PassiveStreamBuilder<MemoryConn>>(
     ensures stage { StageIn (option_map (λ c. c.now) under_way.new) stage.new }
     ensures failed { FailedStays machine.old machine.new result }
     ensures fails { FailsWith machine.old machine.new (given_answer result) }
-    ensures passes { Passes (built_by B.answers builder.now) (coding_of E.decoded E.encoded encoding.now) machine.old machine.new
+    ensures passes { Passes (built_by B.answers builder.now) (coding_of E.decoded E.encoded
+        encoding.now) machine.old machine.new
         (option_map (λ c. c.now) under_way.old) (option_map (λ c. c.now) under_way.new)
         stage.old stage.new course.old course.new Event.Poll result }
     ensures causes { CausesHere (built_by B.answers builder.now) Event.Poll machine.old machine.new
-        (option_map (λ c. c.now) under_way.old) (option_map (λ c. c.now) under_way.new) stage.old stage.new result }
+        (option_map (λ c. c.now) under_way.old) (option_map (λ c. c.now) under_way.new) stage.old
+        stage.new result }
 {
     if reads_first(machine, under_way, course) {
         return poll_behind(machine, alloc, builder, encoding, under_way, stage, course);
@@ -267,14 +282,17 @@ fn poll_behind<'e, E: Encoding, B: PassiveStreamBuilder<MemoryConn>>(
     course: &mut Course,
 ) -> Option<Answer>
     requires stage { StageIn (option_map (λ c. c.now) under_way.old) stage.old }
-    requires behind { reads_here (option_map (λ c. c.now) under_way.old) course.old machine.old ≡ true }
+    requires behind { reads_here (option_map (λ c. c.now) under_way.old) course.old machine.old ≡
+        true }
     ensures stage { StageIn (option_map (λ c. c.now) under_way.new) stage.new }
     ensures fails { FailsWith machine.old machine.new (given_answer result) }
-    ensures catches_up { CatchesUpHere (built_by B.answers builder.now) (coding_of E.decoded E.encoded encoding.now) machine.old machine.new
+    ensures catches_up { CatchesUpHere (built_by B.answers builder.now) (coding_of E.decoded
+        E.encoded encoding.now) machine.old machine.new
         (option_map (λ c. c.now) under_way.old) (option_map (λ c. c.now) under_way.new)
         stage.old stage.new course.new result }
     ensures causes { CausesHere (built_by B.answers builder.now) Event.Poll machine.old machine.new
-        (option_map (λ c. c.now) under_way.old) (option_map (λ c. c.now) under_way.new) stage.old stage.new result }
+        (option_map (λ c. c.now) under_way.old) (option_map (λ c. c.now) under_way.new) stage.old
+        stage.new result }
 {
     let Some(call) = *under_way else {
         return None;
@@ -313,11 +331,13 @@ fn poll_under_way<'e, E: Encoding, B: PassiveStreamBuilder<MemoryConn>>(
     ensures stage { StageIn (option_map (λ c. c.now) under_way.new) stage.new }
     ensures failed { FailedStays machine.old machine.new result }
     ensures fails { FailsWith machine.old machine.new (given_answer result) }
-    ensures happens { Happens (built_by B.answers builder.now) (coding_of E.decoded E.encoded encoding.now) machine.old machine.new
+    ensures happens { Happens (built_by B.answers builder.now) (coding_of E.decoded E.encoded
+        encoding.now) machine.old machine.new
         (option_map (λ c. c.now) under_way.old) (option_map (λ c. c.now) under_way.new)
         stage.old stage.new course.old course.new Event.Poll result }
     ensures causes { CausesHere (built_by B.answers builder.now) Event.Poll machine.old machine.new
-        (option_map (λ c. c.now) under_way.old) (option_map (λ c. c.now) under_way.new) stage.old stage.new result }
+        (option_map (λ c. c.now) under_way.old) (option_map (λ c. c.now) under_way.new) stage.old
+        stage.new result }
 {
     let Some(call) = *under_way else {
         return None;
@@ -350,7 +370,8 @@ fn poll_next<E: Encoding, B: PassiveStreamBuilder<MemoryConn>>(
 ) -> Poll<Answer>
     requires { StageIn (Some call.now) stage.old }
     ensures stage { result ≡ poll.Pending → StageIn (Some call.now) stage.new }
-    ensures polled { PollsNext (built_by B.answers builder.now) (coding_of E.decoded E.encoded encoding.now) call.now stage.old
+    ensures polled { PollsNext (built_by B.answers builder.now) (coding_of E.decoded E.encoded
+        encoding.now) call.now stage.old
         stage.new polled.new machine.old machine.new result }
 {
     *polled = false;
@@ -375,7 +396,8 @@ fn poll_drain<E: Encoding, B: PassiveStreamBuilder<MemoryConn>>(
     builder: &Option<B>,
     encoding: &E,
 ) -> Poll<Answer>
-    ensures polled { (at : Stage) × PollsHere (built_by B.answers builder.now) (coding_of E.decoded E.encoded encoding.now) Call.Drain
+    ensures polled { (at : Stage) × PollsHere (built_by B.answers builder.now) (coding_of E.decoded
+        E.encoded encoding.now) Call.Drain
         (Stage.At Turn.First) at machine.old machine.new result }
 {
     let mut stage = Stage::At(Turn::First);
@@ -395,7 +417,8 @@ fn poll_here<E: Encoding, B: PassiveStreamBuilder<MemoryConn>>(
 ) -> Poll<Answer>
     requires { StageIn (Some call.now) stage.old }
     ensures stage { result ≡ poll.Pending → StageOf call.now stage.new }
-    ensures polled { PollsHere (built_by B.answers builder.now) (coding_of E.decoded E.encoded encoding.now) call.now stage.old
+    ensures polled { PollsHere (built_by B.answers builder.now) (coding_of E.decoded E.encoded
+        encoding.now) call.now stage.old
         stage.new machine.old machine.new result }
 {
     if is_local(call) {
@@ -418,7 +441,8 @@ fn carry_here<E: Encoding, B: PassiveStreamBuilder<MemoryConn>>(
     requires stage { StageIn (Some call.now) _stage.old }
     requires local { is_local call.now ≡ true }
     ensures done { result ≡ poll.Pending → ⊥ }
-    ensures polled { PollsHere (built_by B.answers _builder.now) (coding_of E.decoded E.encoded _encoding.now) call.now _stage.old
+    ensures polled { PollsHere (built_by B.answers _builder.now) (coding_of E.decoded E.encoded
+        _encoding.now) call.now _stage.old
         _stage.new machine.old machine.new result }
 {
     let answer = machine.carry(alloc, call);

@@ -24,7 +24,8 @@ pub fn a_call_in_step_leaves_none_due()
 /// On a session on which no reply is due, a list in which each call that is dropped wasn't polled, or is a plain read, or
 /// `Finish`, is one script: no drop ends it, and no call reads what is due to another (RFC 959, section 5.4).
 pub fn a_list_of_free_drops_is_one_script()
-    ensures whole { (coding : Coding) (outcomes : List NetOutcome) (old : SessionValue) (form : ReplyForm) (events : List Event) →
+    ensures whole { (coding : Coding) (outcomes : List NetOutcome) (old : SessionValue) (form :
+        ReplyForm) (events : List Event) →
         old.state.unanswered ≡ 0 →
         DropsFreely coding (start_of old outcomes) (script_of old form) events →
         Whole coding (start_of old outcomes) zero (script_of old form) events }

@@ -48,7 +48,8 @@ fn session_of(alloc: Global, script: &Script) -> Result<Session<MemoryTransport>
     ensures builder { IfOk result (λ session. session.builder ≡ None) }
     ensures mark { IfOk result (λ session. session.mark ≡ None) }
     ensures begins { IfOk result (λ session.
-        Begins (Unit {0}) (rule_by script.now.lenient) (giving script.now.server (fresh_between unspecified server_address))
+        Begins (Unit {0}) (rule_by script.now.lenient) (giving script.now.server (fresh_between
+        unspecified server_address))
         (first_net [] (map supply_of script.now.data_conns) []) session.machine) }
 {
     let transport = transport_of(alloc, script.data_conns.as_slice())?;

@@ -58,7 +58,8 @@ fn play<R: Read, W: Write>(alloc: Global, reader: &mut R, writer: &mut W) -> Res
 
 /// Reads a reader to its end. An interrupted read is tried again, at most 64 times in a row.
 fn read_whole<R: Read>(alloc: Global, reader: &mut R) -> Result<Vec<u8>, PlayError>
-    ensures whole { IfOk result (λ text. IfSome (R.remaining reader.old) (λ source. source ≡ text.items)) }
+    ensures whole { IfOk result (λ text. IfSome (R.remaining reader.old) (λ source. source ≡
+        text.items)) }
     ensures fault { IfErr result IsFault }
 {
     match vec![in alloc; 0u8; BUFFER] {
@@ -74,7 +75,8 @@ fn read_through<R: Read>(
     buffer: &mut [u8],
 ) -> Result<Vec<u8>, PlayError>
     requires { 0 < length buffer.old }
-    ensures whole { IfOk result (λ text. IfSome (R.remaining reader.old) (λ source. source ≡ text.items)) }
+    ensures whole { IfOk result (λ text. IfSome (R.remaining reader.old) (λ source. source ≡
+        text.items)) }
     ensures fault { IfErr result IsFault }
 {
     let mut text = Vec::new(alloc);

@@ -94,7 +94,8 @@ impl<Tr: Network, K: Secures<Tr::Conn>> Network for Secured<Tr, K> {
         over_in_clear Tr.Conn.told K.Stream.told (Tr.closed t.below) t.over.items };
 
     ghost handshake = { λ t conn outcome. SecuresAsKept K.answers t.connector
-        (GivesBack Tr.Conn.told K.Stream.gives conn) (told_in_clear Tr.Conn.told K.Stream.told conn) outcome };
+        (GivesBack Tr.Conn.told K.Stream.gives conn) (told_in_clear Tr.Conn.told K.Stream.told conn)
+        outcome };
 
     ghost has_room = { λ t. Tr.has_room t.below × (length t.over.items < vec_capacity t.over) };
 

@@ -99,10 +99,13 @@ impl<Tr: Network, K: AsyncTlsConnector<Tr::Conn>> Secured<Tr, K> {
         &mut self,
         mut connecting: K::Connecting,
     ) -> Poll<Handshaken<DataStream<Tr::Conn, K::Stream>>>
-        ensures ends { IfReady result (λ made. IfOk made (λ outcome. ComesAs (K.may_answer connecting)
+        ensures ends { IfReady result (λ made. IfOk made (λ outcome. ComesAs (K.may_answer
+            connecting)
             (built_as (told_in_clear Tr.Conn.told K.Stream.told) outcome))) }
-        ensures continues { Tr.Conn.tells → IfReady result (λ made. IfOk made (λ outcome. IfOk outcome
-            (λ conn. Continues (K.handed connecting) (told_below Tr.Conn.told K.Stream.below conn)))) }
+        ensures continues { Tr.Conn.tells → IfReady result (λ made. IfOk made (λ outcome. IfOk
+            outcome
+            (λ conn. Continues (K.handed connecting) (told_below Tr.Conn.told K.Stream.below
+            conn)))) }
         ensures secures { Secures (told_in_clear Tr.Conn.told K.Stream.told) (λ _. Unit {0}) result }
         ensures waits { result ≡ Poll.Pending → K.may_wait }
         ensures below { self.new.below ≡ self.old.below }

@@ -38,7 +38,8 @@ pub trait TlsStream<C: Tells>: Tells + Drop {
 
     /// The connection below, to be changed.
     fn mut_ref(&mut self) -> &mut C
-        ensures* changes { sem 𝓛 (Lends Self.row C.row self.entry result (with_below self.entry.now)) }
+        ensures* changes { sem 𝓛 (Lends Self.row C.row self.entry result (with_below
+            self.entry.now)) }
         ensures value { result.now ≡ below self.old };
 
     /// Whether its record is to be kept once it is over.

@@ -25,7 +25,7 @@ use Rattle.ftp_transport.specs.declared.request.RequestOutcome.{RequestOutcome}
 use Rattle.ftp_transport.specs.declared.request.RequestOutcome.TheVariants.{Done as Made, Address, Refused}
 use Rattle.ftp_calls.specs.Active.{port_command}
 use Rattle.ftp_calls.specs.Addresses.{passive_address_of, extended_port_of}
-use Rattle.ftp_calls.specs.Exchanges.{restarts, row_of}
+use Rattle.ftp_calls.specs.Exchanges.{restarts, row_of, extended_codes}
 use Rattle.ftp_calls.specs.declared.answers.addresses.NoAddress.{NoAddress}
 use Rattle.ftp_calls.specs.declared.answers.addresses.NoAddress.TheVariants.{Absent, Unreadable}
 use Rattle.ftp_calls.specs.declared.call.Answer.{Answer}
@@ -42,7 +42,7 @@ use Rattle.ftp_calls.specs.declared.exchange.Turn.{Turn}
 use Rattle.ftp_calls.specs.declared.exchange.Turn.TheVariants.{Passive, ExtendedPassive, Active, Restart}
 use Rattle.ftp_dialogue.specs.Coding.{Coding}
 use Rattle.ftp_dialogue.specs.Counted.{IsAmong, given_by}
-use Rattle.ftp_dialogue.specs.Dialogue.{Tree, Say, Hear, Look, Ask, Build, Secure, Move, Leaf, accepting, admitting, after_fetch, at_port, carrying, closed_as, concluded, connecting_to, connecting_to_peer, doing, expected_of, fetch_closing_data, fetch_concluded, fetch_ending, fetched, from_turn, gathering, last_turn, later, lets_in, moved_answer, negotiating, negotiating_unless, on_address, on_built, on_connection, on_data, on_sent, opening, opening_data, restart_turn, saying, securing, sending, sending_all, size_to_send, storing, strangers, to_address, to_port, told_of_close, too_long, unfetched, with_abandoned, with_fetched}
+use Rattle.ftp_dialogue.specs.Dialogue.{Tree, Say, Hear, Look, Ask, Build, Secure, Move, Leaf, accepting, admitting, after_fetch, at_port, carrying, closed_as, concluded, connecting_to, connecting_to_peer, doing, expected_of, fetch_closing_data, fetch_concluded, fetch_ending, fetched, from_turn, gathering, last_turn, later, lets_in, moved_answer, negotiating, negotiating_unless, on_address, on_built, on_connection, on_data, on_sent, opening, opening_data, restart_turn, saying, securing, sending, sending_all, size_to_send, storing, strangers, to_address, to_port, told_of_close, too_long, unfetched, with_abandoned, with_fetched, accepted, asking_passive, falls_back, on_passive, is_ipv4, expecting}
 use Rattle.ftp_dialogue.specs.Promises.{answer_of}
 use Rattle.ftp_dialogue.specs.Sound.{cannot_open}
 use Rattle.ftp_dialogue.specs.Within.{IsOfBytes, MayHear, Within}
@@ -282,18 +282,32 @@ module _ (Good : Answer → Type 0) (Asks : Type 0) where
     port_backed reply next backed (Err Unreadable) = λ grave. absurd grave
     port_backed reply next backed (Ok port) = peer_backed port next backed
 
+    -- EPSV was refused, and PASV follows
+    passive_told : (next : State → Tree) → Tells Good Asks May (next state) → (heard : Result Response FtpError) → MayHear heard → Tells Good Asks May (on_passive state next heard)
+    passive_told next backed (Ok reply) may = told_backed reply (next state) backed (passive_address_of reply.body)
+    passive_told next backed (Err fault) may = of_bytes fault may
+
+    pub port_or_passive : (coding : Coding) (reply : Response) (next : State → Tree) → Tells Good Asks May (next state) → (tries : Bool) → Tells Good Asks May (accepted coding (ending.GivesPort tries) state reply next)
+    port_or_passive coding reply next backed tries =
+        cond_backed May (falls_back tries reply) (asking_passive coding state next) (to_port state reply (next state) (extended_port_of reply.body))
+        (line_backed May coding (Some command.Pasv) (Hear (expecting (PassiveMode ∷ [])) (on_passive state next)) (passive_told next backed, λ kind same. cc same))
+        (port_backed reply (next state) backed (extended_port_of reply.body))
+
     -- where it is negotiated, and the last turn has its reasons
     module _ (coding : Coding) (call : Call) (last_backed : Tells Good Asks May (last_turn coding call state)) (offset : ℕ) where
       restart : Tells Good Asks May (restart_turn coding call offset state)
       restart = restart_backed state May coding call last_backed offset
 
-      passive_backed : (heard : Result Response FtpError) → MayHear heard → Tells Good Asks May (concluded coding ending.GivesAddress state (later coding call (Passive offset)) heard)
+      passive_backed : (heard : Result Response FtpError) → MayHear heard → Tells Good Asks May (concluded coding ending.GivesAddress state (later coding call (Passive offset false)) heard)
       passive_backed (Ok reply) may = told_backed reply (restart_turn coding call offset state) restart (passive_address_of reply.body)
       passive_backed (Err fault) may = of_bytes fault may
 
-      extended_backed : (heard : Result Response FtpError) → MayHear heard → Tells Good Asks May (concluded coding ending.GivesPort state (later coding call (ExtendedPassive offset)) heard)
-      extended_backed (Ok reply) may = port_backed reply (restart_turn coding call offset state) restart (extended_port_of reply.body)
-      extended_backed (Err fault) may = of_bytes fault may
+      extended_backed : (tries : Bool) (heard : Result Response FtpError) → MayHear heard → Tells Good Asks May (concluded coding (ending.GivesPort tries) state (later coding call (ExtendedPassive offset tries)) heard)
+      extended_backed tries (Ok reply) may = port_or_passive coding reply (later coding call (ExtendedPassive offset tries)) restart tries
+      extended_backed tries (Err fault) may = of_bytes fault may
+
+      extended_turn : (tries : Bool) → Tells Good Asks May (from_turn coding call (ExtendedPassive offset tries) state)
+      extended_turn tries = line_backed May coding (Some command.Epsv) (Hear (expected_of (extended_codes tries)) (concluded coding (ending.GivesPort tries) state (later coding call (ExtendedPassive offset tries)))) (extended_backed tries, λ kind same. cc same)
 
       abbrev told_at : SocketAddr → SocketAddr → Turn
       told_at local bound = Active (at_port (socket_port bound) local) offset
@@ -301,8 +315,9 @@ module _ (Good : Answer → Type 0) (Asks : Type 0) where
       pub opening_data_backed : (m : Mode) → Tells Good Asks May (opening_data m coding call offset state)
       opening_data_backed mode.Active = λ local.
           address_backed (λ bound. from_turn coding call (told_at local bound) state) (λ bound. line_backed May coding (Some (port_command (at_port (socket_port bound) local))) (Hear (expected_of (One CommandOk)) (concluded coding ending.Continues state (later coding call (told_at local bound)))) (continued_backed state May coding (later coding call (told_at local bound)) restart, λ kind same. cc same))
-      opening_data_backed mode.Passive = line_backed May coding (Some command.Pasv) (Hear (expected_of (One PassiveMode)) (concluded coding ending.GivesAddress state (later coding call (Passive offset)))) (passive_backed, λ kind same. cc same)
-      opening_data_backed mode.ExtendedPassive = line_backed May coding (Some command.Epsv) (Hear (expected_of (One ExtendedPassiveMode)) (concluded coding ending.GivesPort state (later coding call (ExtendedPassive offset)))) (extended_backed, λ kind same. cc same)
+      opening_data_backed mode.Passive = line_backed May coding (Some command.Pasv) (Hear (expected_of (One PassiveMode)) (concluded coding ending.GivesAddress state (later coding call (Passive offset false)))) (passive_backed, λ kind same. cc same)
+      opening_data_backed mode.ExtendedPassive = extended_turn false
+      opening_data_backed mode.Automatic = λ peer. extended_turn (is_ipv4 peer)
 
       pub negotiating_backed : ((fault : FtpError) → cannot_open state.counts ≡ Some fault → May state fault) → Tells Good Asks May (negotiating coding call offset state)
       negotiating_backed spent = go (cannot_open state.counts) refl

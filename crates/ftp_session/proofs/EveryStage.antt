@@ -54,7 +54,7 @@ use Rattle.ftp_dialogue.specs.declared.stage.Transferring.TheVariants as fetch
 use Rattle.ftp_dialogue.specs.declared.state.State.{State}
 use Rattle.ftp_session.specs.Calls.{sends}
 use Rattle.ftp_session.specs.PollCauses.{error_of, kept_by, kept_error}
-use Rattle.ftp_session.proofs.Backed.{Any, Backed, Fits, Or, Tells, accepting_backed, built_backed, carried_backed, clash, close_given, closing_fetch_backed, cond_backed, connecting_backed, ending_fetch_backed, gathering_backed, io, line_backed, negotiating_backed, of_bytes, opening_backed, opening_data_backed, peer_backed, port_backed, restart_backed, securing_backed, sending_backed, storing_backed, told_backed, took_no_more}
+use Rattle.ftp_session.proofs.Backed.{Any, Backed, Fits, Or, Tells, accepting_backed, built_backed, carried_backed, clash, close_given, closing_fetch_backed, cond_backed, connecting_backed, ending_fetch_backed, gathering_backed, io, line_backed, negotiating_backed, of_bytes, opening_backed, opening_data_backed, peer_backed, port_or_passive, restart_backed, securing_backed, sending_backed, storing_backed, told_backed, took_no_more}
 
 -- Endings
 
@@ -62,7 +62,7 @@ use Rattle.ftp_session.proofs.Backed.{Any, Backed, Fits, Or, Tells, accepting_ba
 -- connection that takes no more bytes
 abbrev Needs : Type 0 → (State → FtpError → Type 0) → Ending → Type 0
 Needs Asks May ending.GivesAddress = Asks
-Needs Asks May ending.GivesPort = Asks
+Needs Asks May (ending.GivesPort tries) = Asks
 Needs Asks May (ending.Opens replies) = Asks
 Needs Asks May (ending.Performs (task.Fetch form)) = Asks
 Needs Asks May (ending.Performs (task.Store bytes)) = Asks × ((state : State) → May state took_no_more)
@@ -116,7 +116,7 @@ module _ (Asks : Type 0) (May : State → FtpError → Type 0) (coding : Coding)
     accepted_backed (ending.GoesOn status) needs reply = cond_backed Any Asks May (eqb (code_of reply.status) (code_of status)) (after state) (stops state) backed tt
     accepted_backed ending.Continues needs reply = backed
     accepted_backed ending.GivesAddress may_ask reply = told_backed Any Asks may_ask state May reply (after state) backed (passive_address_of reply.body)
-    accepted_backed ending.GivesPort may_ask reply = port_backed Any Asks may_ask state May reply (after state) backed (extended_port_of reply.body)
+    accepted_backed (ending.GivesPort tries) may_ask reply = port_or_passive Any Asks may_ask state May coding reply after backed tries
     accepted_backed (ending.Opens true) may_ask reply = opening_backed Any Asks may_ask state May state.settings.mode (Leaf (opened_answer true reply) (with_transfer state)) tt
     accepted_backed (ending.Opens false) may_ask reply = opening_backed Any Asks may_ask state May state.settings.mode (Leaf (opened_answer false reply) (with_transfer state)) tt
     accepted_backed (ending.Performs (task.Fetch form)) may_ask reply = opening_backed Any Asks may_ask state May state.settings.mode (performing coding (task.Fetch form) state) (gathering_backed Any Asks may_ask coding form (λ all. tt) most_reads May [] state)
@@ -197,8 +197,8 @@ module _ (Asks : Type 0) (called : Call) (may_ask : Carries called → Asks) whe
     turn_needs : (turn : Turn) → TurnOf called turn → ((kind : ErrorKind) → turn ≡ Closed (Some kind) → (state : State) → May state (io kind)) → NeedsRow Asks May (row_of called turn)
     turn_needs First of kept = own_needs May short true
     turn_needs Second of kept = own_needs May short false
-    turn_needs (Passive offset) of kept = may_ask (inl of)
-    turn_needs (ExtendedPassive offset) of kept = may_ask (inl of)
+    turn_needs (Passive offset after) of kept = may_ask (inl of)
+    turn_needs (ExtendedPassive offset tries) of kept = may_ask (inl of)
     turn_needs (Active address offset) of kept = tt
     turn_needs (Restart offset) of kept = tt
     turn_needs (Closed None) of kept = tt
@@ -212,8 +212,8 @@ module _ (Asks : Type 0) (called : Call) (may_ask : Carries called → Asks) whe
       later_backed : (turn : Turn) → Backed Asks May (later coding called turn state)
       later_backed First = last_backed
       later_backed Second = tt
-      later_backed (Passive offset) = restart_backed Any Asks state May coding called last_backed offset
-      later_backed (ExtendedPassive offset) = restart_backed Any Asks state May coding called last_backed offset
+      later_backed (Passive offset after) = restart_backed Any Asks state May coding called last_backed offset
+      later_backed (ExtendedPassive offset tries) = restart_backed Any Asks state May coding called last_backed offset
       later_backed (Active address offset) = restart_backed Any Asks state May coding called last_backed offset
       later_backed (Restart offset) = last_backed
       later_backed (Closed close) = tt
@@ -321,6 +321,7 @@ module _ (Asks : Type 0) (called : Call) (may_ask : Carries called → Asks) (Ma
 
   way_backed : negotiates called ≡ true → (on : Way) → WayOf called on → ((fault : FtpError) → cannot_open state.counts ≡ Some fault → way_of coding called state on ≡ Leaf (Fault fault) state → May state fault) → Backed Asks May (way_of coding called state on)
   way_backed is (way.Negotiating offset) of spent = negotiating_backed Any Asks (may_ask (inl is)) state May coding called (last_backed Asks called may_ask May short coding state) offset (λ fault none. spent fault none (ap (λ o. negotiating_unless o coding called offset state) none))
+  way_backed is (way.Choosing offset) of spent = opening_data_backed Any Asks (may_ask (inl is)) state May coding called (last_backed Asks called may_ask May short coding state) offset mode.Automatic
   way_backed is (way.Locating offset) of spent = opening_data_backed Any Asks (may_ask (inl is)) state May coding called (last_backed Asks called may_ask May short coding state) offset mode.Active
   way_backed is (way.Binding local offset) of spent = opening_data_backed Any Asks (may_ask (inl is)) state May coding called (last_backed Asks called may_ask May short coding state) offset mode.Active local
   way_backed is (way.Asking turn asking) of spent = asking_backed (may_ask (inl is)) turn (later_backed Asks called may_ask May short coding state turn) asking of

@@ -122,7 +122,8 @@ impl TokioListener {
         ensures nothing { result ≡ waits.Nothing →
             (source : ℕ) → AcceptNeeds self.new.socket self.new.waits source → ⊥ }
         ensures over { result ≡ waits.Over → self.old.waits ≡ true }
-        ensures again { result ≡ waits.Registered → self.new.alarm.sleep ≡ None → cx.new.is_woken ≡ true }
+        ensures again { result ≡ waits.Registered → self.new.alarm.sleep ≡ None → cx.new.is_woken ≡
+            true }
         ensures rings { result ≡ waits.Registered →
             IfSome self.new.alarm.sleep (λ sleep. Hears cx.new (sleep_source sleep)) }
         ensures waits { self.new.waits ≡ self.old.waits }

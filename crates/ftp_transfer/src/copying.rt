@@ -38,7 +38,8 @@ pub fn copy<C: Conn + Drop, S: Read, P: Progress>(
     transfer: &mut Transfer<C>,
     watch: &mut Watch<'_, P>,
 ) -> FtpResult<u64>
-    ensures copies { Copies C.tells text (S.remaining source.old) (S.remaining source.new) transfer.old
+    ensures copies { Copies C.tells text (S.remaining source.old) (S.remaining source.new)
+        transfer.old
         transfer.new result }
 {
     // A text may be twice as long on the wire.
@@ -57,7 +58,8 @@ fn copy_through<C: Conn + Drop, S: Read, P: Progress>(
     watch: &mut Watch<'_, P>,
 ) -> FtpResult<u64>
     requires { 0 < length input.old }
-    ensures copies { Copies C.tells text (S.remaining source.old) (S.remaining source.new) transfer.old
+    ensures copies { Copies C.tells text (S.remaining source.old) (S.remaining source.new)
+        transfer.old
         transfer.new result }
 {
     let mut output = Vec::new(alloc);
@@ -100,7 +102,8 @@ fn read_block<S: Read>(source: &mut S, input: &mut [u8]) -> (usize, Result<bool,
     requires { 0 < length input.old }
     ensures within { result.0 ≤ length input.new }
     ensures size { length input.new ≡ length input.old }
-    ensures bytes { Consumes (S.remaining source.old) (S.remaining source.new) (take result.0 input.new) }
+    ensures bytes { Consumes (S.remaining source.old) (S.remaining source.new) (take result.0
+        input.new) }
     ensures some { result.1 ≡ Ok true → 0 < result.0 }
     ensures end { result.1 ≡ Ok false → IsAtEnd (S.remaining source.new) }
 {

@@ -27,7 +27,8 @@ pub fn save<C: Conn + Drop, W: Write, P: Progress>(
     writer: &mut W,
     watch: &mut Watch<'_, P>,
 ) -> FtpResult<u64>
-    ensures saves { Saves C.tells (W.contents writer.old) (W.contents writer.new) transfer.old transfer.new result }
+    ensures saves { Saves C.tells (W.contents writer.old) (W.contents writer.new) transfer.old
+        transfer.new result }
 {
     let mut buffer = vec![in alloc; 0u8; BUFFER]?;
     save_through(transfer, writer, &mut buffer, watch)
@@ -41,7 +42,8 @@ fn save_through<C: Conn + Drop, W: Write, P: Progress>(
     watch: &mut Watch<'_, P>,
 ) -> FtpResult<u64>
     requires { 0 < length buffer.old }
-    ensures saves { Saves C.tells (W.contents writer.old) (W.contents writer.new) transfer.old transfer.new result }
+    ensures saves { Saves C.tells (W.contents writer.old) (W.contents writer.new) transfer.old
+        transfer.new result }
 {
     let mut count = 0u64;
     for _ in 0..u64::MAX {

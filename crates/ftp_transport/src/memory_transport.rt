@@ -132,7 +132,8 @@ impl MemoryTransport {
         address: SocketAddr,
         limit: Option<Duration>,
     ) -> Connected<MemoryConn>
-        ensures asks { Asks (Request.Connect address limit) done (poll.Ready result) self.old.answered self.new.answered }
+        ensures asks { Asks (Request.Connect address limit) done (poll.Ready result)
+            self.old.answered self.new.answered }
         ensures supplies { Supplies (connects_as (λ c. c)) over_memory (poll.Ready result)
             self.old.ready self.new.ready }
         ensures others { self.new ≡

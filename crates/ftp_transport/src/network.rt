@@ -182,7 +182,8 @@ pub trait Transport<R>: Network {
     fn secure(&mut self, rt: &R, conn: Self::Conn) -> Handshaken<Self::Conn>
         ensures secures { Self.Conn.tells →
             Secures Self.Conn.told Self.Conn.secures (poll.Ready result) }
-        ensures handshake { Secures Self.Conn.told (Self.handshake self.old conn) (poll.Ready result) }
+        ensures handshake { Secures Self.Conn.told (Self.handshake self.old conn) (poll.Ready
+            result) }
         ensures asked { Self.asked self.new ≡ Self.asked self.old }
         ensures ready { Self.ready self.new ≡ Self.ready self.old }
         ensures closed { Self.closed self.new ≡ Self.closed self.old }

@@ -22,11 +22,16 @@ use std::time::{Clock, Duration};
 /// `set_write_timeout`) fails with `TimedOut`.
 pub struct TcpConn {
     stream: TcpStream,
+    // Whether a write was made, as for an upload.
+    has_written: bool,
 }
 
 impl Drop for TcpConn {
     fn drop(self) {
-        let Self { stream } = self;
+        let Self {
+            stream,
+            has_written: _,
+        } = self;
         drop(stream);
     }
 }
@@ -34,7 +39,10 @@ impl Drop for TcpConn {
 impl TcpConn {
     /// A connection over a socket that is connected.
     pub fn new(stream: TcpStream) -> TcpConn {
-        TcpConn { stream }
+        TcpConn {
+            stream,
+            has_written: false,
+        }
     }
 
     /// The socket.
@@ -67,7 +75,14 @@ impl Tells for TcpConn {
     }
 
     /// Closes both directions. Where the peer has gone that is no error.
+    ///
+    /// A connection on which nothing was written, as a download's, is closed by its drop, which comes next, and needs no call
+    /// of its own: a shutdown before that kills some servers that still send. A clone of its socket that the caller has made
+    /// keeps it open.
     fn close(&mut self) -> Result<(), ErrorKind> {
+        if !self.has_written {
+            return Ok(());
+        }
         match self.stream.shutdown(Shutdown::Both) {
             Ok(()) => Ok(()),
             Err(error) if error.kind() == ErrorKind::NotConnected => Ok(()),
@@ -89,6 +104,7 @@ impl Conn for TcpConn {
     }
 
     fn write(&mut self, bytes: &[u8]) -> Result<usize, ErrorKind> {
+        self.has_written = true;
         match write_retrying(&mut self.stream, bytes) {
             Ok(0) => Err(ErrorKind::WriteZero),
             Ok(count) => Ok(count),

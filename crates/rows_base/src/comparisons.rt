@@ -70,6 +70,7 @@ fn mode(word: &str) -> Result<Mode, RowError> {
         "active" => Ok(Mode::Active),
         "passive" => Ok(Mode::Passive),
         "extended_passive" => Ok(Mode::ExtendedPassive),
+        "automatic" => Ok(Mode::Automatic),
         _ => Err(RowError::NotUnderstood),
     }
 }

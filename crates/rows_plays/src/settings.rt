@@ -26,6 +26,7 @@ fn mode(word: &str) -> Result<Mode, RowError> {
         "active" => Ok(Mode::Active),
         "passive" => Ok(Mode::Passive),
         "epsv" => Ok(Mode::ExtendedPassive),
+        "automatic" => Ok(Mode::Automatic),
         _ => Err(RowError::NotUnderstood),
     }
 }

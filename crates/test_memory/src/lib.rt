@@ -1,7 +1,9 @@
 //! Tests of clients over memory: those that threads share (`threads`), and sessions under TLS (`secure`), in what no row of
-//! `rows_secure` makes on them.
+//! `rows_secure` makes on them. Clients that remember that EPSV was refused (`modes`).
 #![tactic(auto)]
 
+#[cfg(test)]
+mod modes;
 #[cfg(test)]
 mod secure;
 #[cfg(test)]

@@ -106,6 +106,30 @@ fn a_half_close_ends_the_input_and_lets_writes_go_on_until_a_close(
 }
 
 #[test]
+fn a_connection_that_was_only_read_is_closed_by_its_drop(rt: HostRuntime) -> Result<(), Fail> {
+    let pair = connected(&rt)?;
+    let Pair {
+        mut conn,
+        mut peer,
+        ..
+    } = Box::into_inner(pair);
+    peer.write_all(b"data")?;
+    let came = conn.read(&mut [0u8; 8]);
+    let closed = conn.close();
+    // no shutdown was sent: the peer may still write
+    let written = peer.write(b"more").is_ok();
+    let rest = conn.read(&mut [0u8; 8]);
+    drop(conn);
+    let end = peer.read(&mut [0u8; 1])?;
+    drop(peer);
+    assert_eq!(rt;
+        (came, closed, written, rest, end),
+        (Ok(4), Ok(()), true, Ok(4), 0)
+    );
+    Ok(())
+}
+
+#[test]
 fn a_reset_is_an_error_and_no_end_of_data(rt: HostRuntime) -> Result<(), Fail> {
     let pair = connected(&rt)?;
     let Pair { mut conn, peer, .. } = Box::into_inner(pair);

@@ -19,6 +19,8 @@ pub enum Mode {
     Passive,
     /// The client opens it to the port of the reply to EPSV, at the control connection's address.
     ExtendedPassive,
+    /// As `ExtendedPassive`; over IPv4, where the server refuses EPSV, as `Passive`. PASV has no IPv6 (RFC 2428, section 1).
+    Automatic,
 }
 
 /// Which peers may open an active data connection.

@@ -78,7 +78,8 @@ impl<C: Tells + Drop> Model for ControlChannel<C> {
       rule = c.rule;
     } };
 
-    ghost invariant = { λ c. Holds C.tells (C.told c.conn) c.reply.bytes.items c.reply.line_start c.reply.phase
+    ghost invariant = { λ c. Holds C.tells (C.told c.conn) c.reply.bytes.items c.reply.line_start
+        c.reply.phase
         c.ahead c.outbox.line.items c.outbox.sent c.ended c.failed c.rule };
 }
 
@@ -186,7 +187,10 @@ impl<C: Tells + Drop> ControlChannel<C> {
     /// Chooses the rule of the next reply, where nothing of one was read. A reply that was read in part is read on by
     /// the rule by which it began, and this call changes nothing then.
     pub fn set_rule(&mut self, rule: ReplyRule)
-        ensures under_way { self.new ≡ record self.old { rule = rule_left self.old.kept self.old.rule rule } }
+        ensures under_way { self.new ≡ record self.old {
+          rule = rule_left self.old.kept
+              self.old.rule rule;
+        } }
         ensures sound { IsSound C.tells self.new }
     {
         if self.reply.bytes.is_empty() {

@@ -42,7 +42,8 @@ impl<C: Tells + Drop> ControlChannel<C> {
         ensures failed { self.old.failed ≡ true →
             (result ≡ poll.Ready (Err FtpError.SessionFailed)) × (self.new ≡ self.old) }
         ensures reads { self.old.failed ≡ false →
-            AnswersRead C.Tells.tells C.read_faults (form_of expected.now) expected.now self.old self.new result }
+            AnswersRead C.Tells.tells C.read_faults (form_of expected.now) expected.now self.old
+            self.new result }
     {
         self.poll_read_reply(alloc, form_of(expected), expected, w)
     }
@@ -94,7 +95,8 @@ impl<C: Tells + Drop> ControlChannel<C> {
         ensures failed { self.old.failed ≡ true →
             (result ≡ poll.Ready (Err FtpError.SessionFailed)) × (self.new ≡ self.old) }
         ensures reads { self.old.failed ≡ false →
-            AnswersRead C.Tells.tells C.read_faults (form_of (expected ∷ [])) (expected ∷ []) self.old self.new result }
+            AnswersRead C.Tells.tells C.read_faults (form_of (expected ∷ [])) (expected ∷ [])
+            self.old self.new result }
     {
         self.poll_read_response_in(alloc, &[expected], w)
     }
@@ -109,7 +111,8 @@ impl<C: Tells + Drop> ControlChannel<C> {
         ensures failed { self.old.failed ≡ true → (result ≡ Err FtpError.SessionFailed) ×
             (self.new ≡ self.old) }
         ensures reads { self.old.failed ≡ false →
-            AnswersRead C.Tells.tells C.blocking_read_faults (form_of expected.now) expected.now self.old self.new (poll.Ready result) }
+            AnswersRead C.Tells.tells C.blocking_read_faults (form_of expected.now) expected.now
+            self.old self.new (poll.Ready result) }
     {
         match self.poll_read_response_in(alloc, expected, &mut NeverWaits) {
             Poll::Ready(answer) => answer,
@@ -127,7 +130,8 @@ impl<C: Tells + Drop> ControlChannel<C> {
         ensures failed { self.old.failed ≡ true → (result ≡ Err FtpError.SessionFailed) ×
             (self.new ≡ self.old) }
         ensures reads { self.old.failed ≡ false →
-            AnswersRead C.Tells.tells C.blocking_read_faults (form_of (expected ∷ [])) (expected ∷ []) self.old self.new (poll.Ready result) }
+            AnswersRead C.Tells.tells C.blocking_read_faults (form_of (expected ∷ [])) (expected ∷
+            []) self.old self.new (poll.Ready result) }
     {
         self.read_response_in(alloc, &[expected])
     }

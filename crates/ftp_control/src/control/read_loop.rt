@@ -81,7 +81,8 @@ fn look(
     ensures under_way { IsUnderWay rule reply.new.bytes.items reply.new.line_start reply.new.phase }
     ensures can_seek { CanSeek sought reply.new.bytes.items }
     ensures fault { MayBreak (λ _. ⊥) result }
-    ensures takes { Takes (says_of rule sought) reply.old.bytes.items reply.new.bytes.items ahead.old
+    ensures takes { Takes (says_of rule sought) reply.old.bytes.items reply.new.bytes.items
+        ahead.old
         ahead.new result }
 {
     while !ahead.bytes().is_empty() {

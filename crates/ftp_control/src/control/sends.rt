@@ -71,7 +71,8 @@ impl<C: Tells + Drop> ControlChannel<C> {
         ensures failed { self.old.failed ≡ true → (result ≡ Err FtpError.SessionFailed) ×
             (self.new ≡ self.old) }
         ensures performs { self.old.failed ≡ false →
-            Performs C.Tells.tells C.blocking_write_faults (wire (E.encoded encoding.now) (text_of command.now)) self.old
+            Performs C.Tells.tells C.blocking_write_faults (wire (E.encoded encoding.now) (text_of
+            command.now)) self.old
             self.new result }
     {
         if self.failed() {

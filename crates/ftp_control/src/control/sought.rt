@@ -31,16 +31,19 @@ impl Sought {
         rule: ReplyRule,
         piece: &[u8],
     ) -> Outcome
-        requires under_way { IsUnderWay rule reply.old.bytes.items reply.old.line_start reply.old.phase }
+        requires under_way { IsUnderWay rule reply.old.bytes.items reply.old.line_start
+            reply.old.phase }
         requires can_seek { CanSeek self reply.old.bytes.items }
         requires piece { IsPiece piece.now }
         requires limit { length reply.old.bytes.items + length piece.now ≤ reply_limit + 1 }
         requires room { vec_len reply.old.bytes + length piece.now ≤ vec_capacity reply.old.bytes }
         ensures outcome { says_of rule self reply.old.bytes.items false ≡ Outcome.Waits → result ≡
             says_of rule self (reply.old.bytes.items ++ piece.now) false }
-        ensures all { TakesAll (Ok result) (reply.old.bytes.items ++ piece.now) reply.new.bytes.items }
+        ensures all { TakesAll (Ok result) (reply.old.bytes.items ++ piece.now)
+            reply.new.bytes.items }
         ensures goes_on { result ≡ Outcome.Ended → ⊥ }
-        ensures under_way { IsUnderWay rule reply.new.bytes.items reply.new.line_start reply.new.phase }
+        ensures under_way { IsUnderWay rule reply.new.bytes.items reply.new.line_start
+            reply.new.phase }
         ensures can_seek { CanSeek self reply.new.bytes.items }
     {
         match self {
@@ -51,13 +54,15 @@ impl Sought {
 
     /// The end of the input.
     pub(crate) fn take_end(self, alloc: Global, reply: &mut ReplyBuffer, rule: ReplyRule) -> Outcome
-        requires under_way { IsUnderWay rule reply.old.bytes.items reply.old.line_start reply.old.phase }
+        requires under_way { IsUnderWay rule reply.old.bytes.items reply.old.line_start
+            reply.old.phase }
         requires can_seek { CanSeek self reply.old.bytes.items }
         ensures outcome { says_of rule self reply.old.bytes.items false ≡ Outcome.Waits → result ≡
             says_of rule self reply.old.bytes.items true }
         ensures settled { result ≡ Outcome.Waits → ⊥ }
         ensures all { TakesAll (Ok result) reply.old.bytes.items reply.new.bytes.items }
-        ensures under_way { IsUnderWay rule reply.new.bytes.items reply.new.line_start reply.new.phase }
+        ensures under_way { IsUnderWay rule reply.new.bytes.items reply.new.line_start
+            reply.new.phase }
     {
         match self {
             Sought::Reply(form) => take_reply_end(alloc, reply, rule, form),

@@ -55,7 +55,7 @@ use Rattle.ftp_calls.specs.declared.exchange.Row.{Row}
 use Rattle.ftp_calls.specs.declared.exchange.Row.TheVariants.{Exchanges, Arms}
 use Rattle.ftp_calls.specs.declared.exchange.Row.TheVariants as row
 use Rattle.ftp_calls.specs.Exchanges.{is_draining, is_local, is_read, row_of, Kind, Nothing, kind_of, kind_of_task}
-use Rattle.ftp_dialogue.specs.Dialogue.{Expected, End, Tree, Say, Hear, Look, Ask, Build, Secure, Move, Leaf, accepted, chunk, fetched, first_fault, later, lets_in, moved_answer, performing, too_long, unfetched, wants_memory, with_abandoned, with_fetched, set_to, answer_to_fault, after_fault_of, with_left, with_transfer, dialogue}
+use Rattle.ftp_dialogue.specs.Dialogue.{Expected, End, Tree, Say, Hear, Look, Ask, Build, Secure, Move, Leaf, accepted, asking_passive, chunk, fetched, first_fault, later, lets_in, moved_answer, performing, too_long, unfetched, wants_memory, with_abandoned, with_fetched, set_to, answer_to_fault, after_fault_of, with_left, with_transfer, dialogue}
 use Rattle.ftp_base.specs.Ascii.{most_bytes}
 use Rattle.ftp_dialogue.specs.Resuming.{Modes, Resumes, Silent, modes_of}
 use Rattle.ftp_dialogue.specs.Promises.{DrainsIf, due_of, AbortsRead, IsFault, Keeps, Leads, Completes, Aborts, However, SaidOrTaken, Untouched, Rests, IsRefused, begun_by, failed_from, refusal_of, IsApart}
@@ -234,6 +234,7 @@ Hears link codes next old new poll.Pending = Advances link (Hear codes next) (He
 abbrev pub Accepts : Coding → Ending → Response → State → State → Accepted → Type 0
 Accepts coding ending reply state state' accepts.GoesOn = (state' ≡ state) × ((later : State → Tree) → accepted coding ending state reply later ≡ later state)
 Accepts coding ending reply state state' (accepts.Asks asking) = (state' ≡ state) × ((later : State → Tree) → accepted coding ending state reply later ≡ asking_of coding asking state (later state))
+Accepts coding ending reply state state' accepts.FallsBack = (state' ≡ state) × ((later : State → Tree) → accepted coding ending state reply later ≡ asking_passive coding state later)
 Accepts coding ending reply state state' (accepts.Performs task) = (state' ≡ state) × ((later : State → Tree) → accepted coding ending state reply later ≡ performing coding task state)
 Accepts coding ending reply state state' (accepts.Done answer) = (later : State → Tree) → accepted coding ending state reply later ≡ Leaf answer state'
 Accepts coding ending reply state state' accepts.NoMemory = state' ≡ state
@@ -353,7 +354,7 @@ BeginsExchange coding call turn stage old new (Done answer) = IsRefusedLine codi
 -- an accepted reply leads to a data connection
 abbrev pub agrees : Ending → Bool
 agrees GivesAddress = true
-agrees GivesPort = true
+agrees (GivesPort tries) = true
 agrees (Opens replies) = true
 agrees (Performs task) = true
 agrees other = false
@@ -381,6 +382,7 @@ takes_memory other = false
 abbrev pub AnswersAs : Ending → Accepted → Type 0
 AnswersAs ending accepts.GoesOn = (kind_of ending ≡ Nothing) × (is_draining ending ≡ false)
 AnswersAs ending (accepts.Asks asking) = (agrees ending ≡ true) × AskingAnswers (kind_of ending) asking
+AnswersAs ending accepts.FallsBack = ending ≡ GivesPort true
 AnswersAs ending (accepts.Performs task) = (agrees ending ≡ true) × (kind_of ending ≡ kind_of_task task)
 AnswersAs ending (accepts.Done answer) = AnswersKind (kind_of ending) answer
 AnswersAs ending accepts.NoMemory = takes_memory ending ≡ true

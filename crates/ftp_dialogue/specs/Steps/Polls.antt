@@ -28,8 +28,8 @@ use Rattle.ftp_dialogue.specs.Link.{Link}
 abbrev pub is_first_turn : Turn → Bool
 is_first_turn First = true
 is_first_turn Second = false
-is_first_turn (Passive offset) = false
-is_first_turn (ExtendedPassive offset) = false
+is_first_turn (Passive offset after) = false
+is_first_turn (ExtendedPassive offset tries) = false
 is_first_turn (Active address offset) = false
 is_first_turn (Restart offset) = false
 is_first_turn (Closed close) = false

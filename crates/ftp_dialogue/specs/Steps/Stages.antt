@@ -32,7 +32,7 @@ use Rattle.ftp_dialogue.specs.declared.stage.Transferring.TheVariants as fetch
 use Rattle.ftp_dialogue.specs.declared.stage.Opened.{Opened as Opening}
 use Rattle.ftp_dialogue.specs.declared.stage.Opened.TheVariants.{Gives as GivesAnswer, Performs}
 use Rattle.ftp_dialogue.specs.declared.stage.OpeningData.{OpeningData as Way}
-use Rattle.ftp_dialogue.specs.declared.stage.OpeningData.TheVariants.{Negotiating, Locating, Binding, Asking}
+use Rattle.ftp_dialogue.specs.declared.stage.OpeningData.TheVariants.{Negotiating, Choosing, Locating, Binding, Asking}
 use Rattle.ftp_dialogue.specs.declared.stage.Aborting.{Aborting as Abort}
 use Rattle.ftp_dialogue.specs.declared.stage.Aborting.TheVariants.{Wording, Sending, ClosingData}
 use Rattle.ftp_dialogue.specs.declared.stage.Resyncing.{Resyncing as Resync}
@@ -46,18 +46,23 @@ use Rattle.ftp_dialogue.specs.Promises.{IsFault}
 use Rattle.ftp_calls.specs.declared.exchange.Row.{Row}
 use Rattle.ftp_calls.specs.declared.exchange.Row.TheVariants.{Exchanges, Arms, Resyncs}
 use Rattle.ftp_calls.specs.Exchanges.{row_of, aborting_row, aborts, finishes, is_local, is_read, negotiates, next_turn, Movements, Listings, Kind, kind_of_fetch, kind_of_task, Nothing, Replies, Texts, Times, Sizes, Lists, Connections, ending_of, given_by, says_of}
-use Rattle.ftp_dialogue.specs.Dialogue.{expected_of, Tree, Say, Look, Secure, There, Leaf, armed, awaiting, aborting, breaking_off, ends_search, closing, later, from_turn, negotiating, listening, listening_at, connecting_to, connecting_to_peer, accepting, fetch_ending, fetch_closing_data, gathering, most_reads, on_built, performing, resyncing, securing, seeking, most_passed_over, sending, strangers, with_transfer}
+use Rattle.ftp_dialogue.specs.Dialogue.{expected_of, Tree, Say, Look, Secure, There, Leaf, armed, awaiting, aborting, breaking_off, ends_search, closing, later, from_turn, negotiating, choosing, listening, listening_at, connecting_to, connecting_to_peer, accepting, fetch_ending, fetch_closing_data, gathering, most_reads, on_built, performing, resyncing, securing, seeking, most_passed_over, sending, strangers, with_transfer}
 
 -- an exchange was made before
 abbrev pub is_later : Turn → Bool
 is_later First = false
 is_later Second = true
-is_later (Passive offset) = false
-is_later (ExtendedPassive offset) = false
+is_later (Passive offset after) = after
+is_later (ExtendedPassive offset tries) = false
 is_later (Active address offset) = false
 is_later (Restart offset) = true
 is_later (Closed close) = false
 is_later Aborted = true
+
+-- the turn at which PASV follows a refusal of EPSV
+abbrev pub falling_back : Turn → Turn
+falling_back (ExtendedPassive offset tries) = Passive offset true
+falling_back other = other
 
 -- what follows once the data connection stands
 abbrev pub opened_by : Coding → Opening → State → Tree
@@ -79,12 +84,14 @@ awaited coding call state a = awaiting coding (expected_of a.hears) a.ending sta
 -- the first node on the way, by who opens the data connection
 abbrev pub first_by : Mode → ℕ → Stage
 first_by mode.Active offset = OpeningData (Locating offset)
-first_by mode.Passive offset = At (Passive offset)
-first_by mode.ExtendedPassive offset = At (ExtendedPassive offset)
+first_by mode.Passive offset = At (Passive offset false)
+first_by mode.ExtendedPassive offset = At (ExtendedPassive offset false)
+first_by mode.Automatic offset = OpeningData (Choosing offset)
 
 -- what is left of the way to a data connection, and of what comes after it
 abbrev pub way_of : Coding → Call → State → Way → Tree
 way_of coding call state (Negotiating offset) = negotiating coding call offset state
+way_of coding call state (Choosing offset) = choosing coding call offset state
 way_of coding call state (Locating offset) = listening coding call offset state
 way_of coding call state (Binding local offset) = listening_at coding call offset state local
 way_of coding call state (Asking turn asking) = asking_of coding asking state (later coding call turn state)
@@ -124,6 +131,7 @@ remaining coding call state (Transferring fetching) = fetch_left coding state fe
 -- a reply was taken on that way
 abbrev pub has_asked : Way → Bool
 has_asked (Negotiating offset) = false
+has_asked (Choosing offset) = false
 has_asked (Locating offset) = false
 has_asked (Binding local offset) = false
 has_asked (Asking turn asking) = true
@@ -168,8 +176,8 @@ many = most_reads + strangers
 
 abbrev pub nodes_from : Turn → ℕ
 nodes_from First = many + 80
-nodes_from (Passive offset) = many + 40
-nodes_from (ExtendedPassive offset) = many + 40
+nodes_from (Passive offset after) = many + 40
+nodes_from (ExtendedPassive offset tries) = many + 50
 nodes_from (Active address offset) = many + 40
 nodes_from (Restart offset) = many + 30
 nodes_from Second = many + 20
@@ -185,6 +193,7 @@ nodes_asked (Securing opened) turn = most_reads + 13
 
 abbrev pub nodes_of : Way → ℕ
 nodes_of (Negotiating offset) = many + 70
+nodes_of (Choosing offset) = many + 60
 nodes_of (Locating offset) = many + 60
 nodes_of (Binding local offset) = many + 50
 nodes_of (Asking turn asking) = nodes_asked asking turn
@@ -266,8 +275,8 @@ AnswersKind kind (answer.Fault fault) = Unit {0}
 abbrev pub TurnOf : Call → Turn → Type 0
 TurnOf call First = (negotiates call ≡ false) × (is_local call ≡ false) × (finishes call ≡ false)
 TurnOf call Second = (is_read call ≡ false) × (is_local call ≡ false)
-TurnOf call (Passive offset) = negotiates call ≡ true
-TurnOf call (ExtendedPassive offset) = negotiates call ≡ true
+TurnOf call (Passive offset after) = negotiates call ≡ true
+TurnOf call (ExtendedPassive offset tries) = negotiates call ≡ true
 TurnOf call (Active address offset) = negotiates call ≡ true
 TurnOf call (Restart offset) = negotiates call ≡ true
 TurnOf call (Closed close) = finishes call ≡ true
@@ -309,6 +318,7 @@ FetchOf call (Ending form answer) = MayFetch call form × AnswersKind (kind_of_f
 
 abbrev pub WayOf : Call → Way → Type 0
 WayOf call (Negotiating offset) = Unit {0}
+WayOf call (Choosing offset) = Unit {0}
 WayOf call (Locating offset) = Unit {0}
 WayOf call (Binding local offset) = Unit {0}
 WayOf call (Asking turn asking) = AskingOf call asking

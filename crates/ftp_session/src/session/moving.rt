@@ -83,7 +83,8 @@ pub(super) fn read_held<Tr: Network, D, F: DownloadReader<Tr::Conn, D>>(
 ) -> Option<FtpResult<D>>
 where
     Tr::Conn: Conn,
-    ensures moves { MovesHeld (F.reads transfer) (Unit {0}) mark.old mark.new machine.old machine.new
+    ensures moves { MovesHeld (F.reads transfer) (Unit {0}) mark.old mark.new machine.old
+        machine.new
         result }
 {
     if machine.transport.make_room().is_err() {

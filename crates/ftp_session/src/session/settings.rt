@@ -3,7 +3,7 @@
 //! Settings say how later data connections come about (RFC 959, section 3.2; RFC 2428), and which lines open and end
 //! later replies (section 4.2). They stay as they were set whatever a call results in.
 
-ghost use Rattle.std.specs.Prelude.{◌≡◌, Some, true};
+ghost use Rattle.std.specs.Prelude.{◌≡◌, ◌⊎◌, Some, true};
 ghost use Rattle.ftp_base.specs.declared.types.mode.Mode.TheVariants as modes;
 ghost use Rattle.ftp_dialogue.specs.Dialogue.{rule_by};
 ghost use Rattle.ftp_dialogue.specs.State.{with_settings};
@@ -25,6 +25,22 @@ impl<Tr: Network, K: Drop, E: Encoding, B: Drop> Session<Tr, K, E, B> {
         ensures mark { self.new.mark ≡ self.old.mark }
     {
         self.machine.state.settings.mode = mode;
+    }
+
+    /// Where the server has refused EPSV in `Mode::Automatic`, the mode is `Passive` from now on: a client calls this before
+    /// each call that opens a data connection, so that EPSV is refused once. Nothing else changes.
+    pub fn settle_mode(&mut self)
+        ensures settles { (self.new.machine ≡ self.old.machine)
+            ⊎ ((self.old.machine.state.settings.mode ≡ modes.Automatic)
+            × (self.new.machine ≡
+            with_settings (λ s. record s { mode = modes.Passive }) self.old.machine)) }
+        ensures mark { self.new.mark ≡ self.old.mark }
+        ensures keeps { Keeps self.old self.new }
+    {
+        let mode = self.machine.state.settings.mode;
+        if matches!(mode, Mode::Automatic) && self.machine.refused_epsv() {
+            self.machine.state.settings.mode = Mode::Passive;
+        }
     }
 
     /// Whether the host of a reply to `PASV` is passed over for the control connection's peer, as behind a router

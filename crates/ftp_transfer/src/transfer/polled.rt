@@ -26,7 +26,8 @@ impl<C: Tells + Drop> Transfer<C> {
         ensures waits { result ≡ Ok poll.Pending → C.may_wait }
         ensures fault { IfErr result (λ kind. C.read_faults kind) }
         ensures given { C.Tells.tells → IsGiven self.old.told → IsGiven self.new.told }
-        ensures end { C.Tells.tells → C.may_wait → 0 < length buffer.old → result ≡ Ok (poll.Ready 0) →
+        ensures end { C.Tells.tells → C.may_wait → 0 < length buffer.old → result ≡ Ok (poll.Ready
+            0) →
             self.old.told.given.closed ≡ true }
         ensures empty { length buffer.old ≡ 0 → result ≡ Ok (poll.Ready 0) }
         ensures unasked { length buffer.old ≡ 0 → self.new ≡ self.old }

@@ -3,6 +3,7 @@ use Rattle.ftp_dialogue.specs.Coding.{coding_of}
 use Rattle.ftp_dialogue.specs.State.{SessionValue}
 use Rattle.ftp_dialogue.proofs.OpeningData.{asking_answers, asking_fewer, fetch_fewer, may_perform, asks_opens, row_answers}
 use Rattle.ftp_dialogue.proofs.NegotiationLemmas.{concludes_on}
+use Rattle.ftp_dialogue.proofs.FallingBack.{falls_begun, falls_fewer, falls_on, falls_stage}
 use Rattle.ftp_dialogue.proofs.Nexts.{stage_after}
 use Rattle.ftp_dialogue.proofs.machine.Machine.accept_reply.Goals as goal
 
@@ -42,3 +43,28 @@ returns-in-Performs-clause-stage g c =
 
 pub returns-in-Performs-clause-fewer : goal.returns-in-Performs-clause-fewer
 returns-in-Performs-clause-fewer g c = λ next. rw c.go_to-in-Performs.ensures (fetch_fewer c.args.awaits.turn)
+
+pub returns-in-FallsBack-clause-stage : goal.returns-in-FallsBack-clause-stage
+returns-in-FallsBack-clause-stage g c =
+    let answers = rw c.in-FallsBack.is at c.accept.ensures.answers in
+    falls_stage _ c.args.awaits _ c.requires.stage answers (rw c.falling_back.ensures at c.go_to-in-FallsBack.ensures)
+
+pub returns-in-FallsBack-clause-fewer : goal.returns-in-FallsBack-clause-fewer
+returns-in-FallsBack-clause-fewer g c = λ next.
+    let answers = rw c.in-FallsBack.is at c.accept.ensures.answers in
+    falls_fewer _ c.args.awaits _ c.requires.stage answers (rw c.falling_back.ensures at c.go_to-in-FallsBack.ensures)
+
+pub returns-in-FallsBack-clause-goes_on : goal.returns-in-FallsBack-clause-goes_on
+returns-in-FallsBack-clause-goes_on g c = λ next.
+    let answers = rw c.in-FallsBack.is at c.accept.ensures.answers in
+    falls_begun _ c.args.awaits _ c.requires.stage answers (rw c.falling_back.ensures at c.go_to-in-FallsBack.ensures)
+
+pub returns-in-FallsBack-clause-concludes : goal.returns-in-FallsBack-clause-concludes
+returns-in-FallsBack-clause-concludes g c =
+    let answers = rw c.in-FallsBack.is at c.accept.ensures.answers in
+    let accepts = rw c.in-FallsBack.is at c.accept.ensures.accepts in
+    let F : SessionValue → SessionValue = λ v. record v { state = c.accept.new.state } in
+    let same = ap F c.self.view_is in
+    let state = ap (λ v. v.state) c.self.view_is in
+    let here = rw state at accepts in
+    falls_on c.args.call.now c.args.awaits _ c.requires.stage answers (rw c.falling_back.ensures at c.go_to-in-FallsBack.ensures) (coding_of g.E.Encoding.decoded g.E.Encoding.encoded c.args.encoding.now) c.args.reply c.args.self.now _ same here

@@ -3,6 +3,9 @@ use Rattle.ftp_dialogue.proofs.machine.Machine.walk.Goals as goal
 pub returns-in-Negotiating-clause-walks : goal.returns-in-Negotiating-clause-walks
 returns-in-Negotiating-clause-walks g c = λ coding. rw (c.in-Negotiating.is) (c.negotiate.ensures.walks coding)
 
+pub returns-in-Choosing-clause-walks : goal.returns-in-Choosing-clause-walks
+returns-in-Choosing-clause-walks g c = λ coding. rw (c.in-Choosing.is) (c.choose.ensures.walks coding)
+
 pub returns-in-Locating-clause-walks : goal.returns-in-Locating-clause-walks
 returns-in-Locating-clause-walks g c = λ coding. rw (c.in-Locating.is) (c.locate.ensures.walks coding)
 
