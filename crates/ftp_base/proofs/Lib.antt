@@ -2,6 +2,7 @@ pub mod AsciiLemmas
 pub mod CopyLemmas
 pub mod EnumLemmas
 pub mod FeatureLemmas
+pub mod Latin1Lemmas
 pub mod NumberLemmas
 pub mod ReadLemmas
 pub mod ReplyLemmas

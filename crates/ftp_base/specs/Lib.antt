@@ -4,6 +4,7 @@ pub mod Encoding
 pub mod Fault
 pub mod Features
 pub mod FileType
+pub mod Latin1
 pub mod Line
 pub mod Peer
 pub mod Reply

@@ -9,9 +9,11 @@ ghost use Rattle.std.specs.Str.Lossy.{utf8_lossy};
 ghost use Rattle.std.specs.declared.io.ErrorKind.{ErrorKind};
 ghost use Rattle.ftp_base.specs.Encoding.{IsRefusal, encode_error_text};
 
+mod latin1;
 mod welcome;
 
 use bstr::ByteSlice;
+pub use latin1::Latin1Encoding;
 use std::alloc::{AllocError, Global};
 use std::error::Error;
 use std::fmt;

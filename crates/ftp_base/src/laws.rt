@@ -5,17 +5,20 @@
 //! fails the check. That orders are total and agree with `==`, and that equal values hash alike, are laws of the
 //! standard library's traits, which each `impl` proves.
 
-ghost use Rattle.std.specs.Prelude.{◌≡◌, ◌↔◌, ℕ, List, [], ◌∷◌, ◌++◌, IsTrue, Some, bytes_eq, if◌then◌else◌};
+ghost use Rattle.std.specs.Prelude.{◌≡◌, ◌↔◌, ◌<◌, ℕ, List, [], ◌∷◌, ◌++◌, IsTrue, Ok, Some, bytes_eq, if◌then◌else◌};
+ghost use Rattle.std.specs.List.{All};
+ghost use Rattle.std.specs.Str.{IsUtf8};
 ghost use Rattle.std.specs.Ordering.{nat_cmp};
 ghost use Rattle.std.specs.Cmp.Lexicographic.{slice_cmp};
 ghost use Rattle.ftp_base.specs.Ascii.{crlf};
 ghost use Rattle.ftp_base.specs.Features.{Feature, map_of, value_at};
 ghost use Rattle.ftp_base.specs.FileType.{format_rank, type_rank};
+ghost use Rattle.ftp_base.specs.Latin1.{latin1_bytes, latin1_text};
 ghost use Rattle.ftp_base.specs.Status.{code_of};
 
 use crate::command::scan::Span;
 use crate::command::{Command, ProtectionLevel};
-use crate::encoding::{EncodeError, Utf8Encoding};
+use crate::encoding::{EncodeError, Latin1Encoding, Utf8Encoding};
 use crate::status::Status;
 use crate::types::{
     ActivePeerCheck, BodyError, Bytes, ConnectionError, Features, FileType, FormatControl, Mode,
@@ -33,6 +36,18 @@ pub fn last_feature_counts()
     ensures { (features : List Feature) (feature : Feature) (name : List ℕ) →
         value_at (map_of (features ++ feature ∷ [])) name
         ≡ (if bytes_eq name feature.0 then Some feature.1 else value_at (map_of features) name) }
+{}
+
+/// Under ISO 8859-1 bytes that are read as text are sent as the same bytes.
+pub fn latin1_bytes_come_back()
+    ensures { (bytes : List ℕ) → All (λ byte. byte < 256) bytes →
+        latin1_bytes (latin1_text bytes) ≡ Ok bytes }
+{}
+
+/// Under ISO 8859-1 a text that is sent as bytes is what they are read as.
+pub fn latin1_text_comes_back()
+    ensures { (text bytes : List ℕ) → IsUtf8 text → latin1_bytes text ≡ Ok bytes →
+        latin1_text bytes ≡ text }
 {}
 
 /// Statuses are ordered by their codes.
@@ -107,6 +122,13 @@ pub fn equal_commands(one: &Command, other: &Command) -> bool
 
 /// Equal encodings are the same.
 pub fn equal_encodings(one: &Utf8Encoding, other: &Utf8Encoding) -> bool
+    ensures { IsTrue result ↔ (one.now ≡ other.now) }
+{
+    one == other
+}
+
+/// Equal encodings of ISO 8859-1 are the same.
+pub fn equal_latin1_encodings(one: &Latin1Encoding, other: &Latin1Encoding) -> bool
     ensures { IsTrue result ↔ (one.now ≡ other.now) }
 {
     one == other

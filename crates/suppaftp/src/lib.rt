@@ -14,7 +14,7 @@ pub mod sync_ftp;
 pub mod transfer_stream;
 pub mod transport;
 
-pub use ftp_base::encoding::{Encoding, Utf8Encoding};
+pub use ftp_base::encoding::{Encoding, Latin1Encoding, Utf8Encoding};
 pub use ftp_base::status::Status;
 pub use ftp_base::types::{
     ActivePeerCheck, ConnectionError, FileType, FormatControl, FtpError, FtpResult, Mode,

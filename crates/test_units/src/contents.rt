@@ -2,9 +2,10 @@
 
 use crate::seen::assert_same;
 use ftp_base::command::Command;
-use ftp_base::encoding::{Encoding, Utf8Encoding};
+use ftp_base::encoding::{EncodeError, Encoding, Latin1Encoding, Utf8Encoding};
 use ftp_base::types::{Bytes, Items, Text};
 use std::alloc::{AllocError, Global};
+use std::io::ErrorKind;
 use std::test::Fail;
 
 #[test]
@@ -80,5 +81,16 @@ fn utf_8_is_the_bytes_as_they_are(rt: HostRuntime) -> Result<(), Fail> {
     let text = Utf8Encoding.decode(rt.alloc(), b"\xc3\xa9\xff")?;
     let due = (b"\xc3\xa9".as_slice(), "é\u{fffd}");
     assert_same(&rt, (bytes.as_slice(), text.as_str()), due);
+    Ok(())
+}
+
+#[test]
+fn each_byte_is_a_character_of_latin_1(rt: HostRuntime) -> Result<(), Fail> {
+    let bytes = Latin1Encoding.encode(rt.alloc(), "né")?;
+    let text = Latin1Encoding.decode(rt.alloc(), b"\xe9\xff\x80")?;
+    let due = (b"n\xe9".as_slice(), "é\u{ff}\u{80}");
+    assert_same(&rt, (bytes.as_slice(), text.as_str()), due);
+    let refused = Latin1Encoding.encode(rt.alloc(), "5 €");
+    assert!(rt; matches!(refused, Err(EncodeError::Refused(ErrorKind::InvalidInput))));
     Ok(())
 }
