@@ -710,7 +710,7 @@ connected_walks link coding call turn address stage' old mid (Done last) opens s
     let tree = connecting_to address old.state (later coding call turn old.state) in
     let T : Tree → Type 0 = λ t. Still link tree t old mid in
     let P : Answer → Type 0 = λ a. Walks link coding call (OpeningData (Asking turn (Connection address))) stage' old mid (Done a) in
-    subst P (sym on.1) (walks_end link coding call (Asking turn (Connection address)) opens stage' Unit old mid (inl (done_ends link tree old mid (subst T (none old.state) still))) (Passive 0, inl opens, refl))
+    subst P (sym on.1) (walks_end link coding call (Asking turn (Connection address)) opens stage' Unit old mid (inl (done_ends link tree old mid (subst T (none old.state) still))) (Passive 0 false, inl opens, refl))
 
 -- a reply that goes on was accepted: the next turn begins, or the call is done
 pub concludes_on : (coding : Coding) (call : Call) (a : Awaits) (reply : Response) (stage' : Stage) (old new : SessionValue) (result : Step) → new ≡ record old { state = new.state } → Accepts coding a.ending reply old.state new.state accepts.GoesOn → GoesOnTo call a.turn stage' result → Concludes coding call a reply stage' old new result

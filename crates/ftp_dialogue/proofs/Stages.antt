@@ -52,7 +52,7 @@ two_fewer Aborted = omega arith
 pub later_is_no_read : (call : Call) (turn : Turn) → TurnOf call turn → is_later turn ≡ true → is_read call ≡ false
 later_is_no_read call First of later = let clash : false ≡ true = later in cc
 later_is_no_read call Second of later = of.0
-later_is_no_read call (Passive offset after) of later = let clash : false ≡ true = later in cc
+later_is_no_read call (Passive offset after) of later = read_opens_none call of
 later_is_no_read call (ExtendedPassive offset tries) of later = let clash : false ≡ true = later in cc
 later_is_no_read call (Active address offset) of later = let clash : false ≡ true = later in cc
 later_is_no_read call (Restart offset) of later = read_opens_none call of

@@ -10,7 +10,7 @@ use Rattle.ftp_calls.specs.declared.exchange.Turn.{Turn}
 use Rattle.ftp_calls.specs.declared.exchange.Turn.TheVariants.{Aborted}
 use Rattle.ftp_dialogue.specs.declared.stage.Aborting.TheVariants.{Wording, Sending, ClosingData}
 use Rattle.ftp_dialogue.specs.declared.stage.OpeningData.{OpeningData}
-use Rattle.ftp_dialogue.specs.declared.stage.OpeningData.TheVariants.{Negotiating, Locating, Binding, Asking}
+use Rattle.ftp_dialogue.specs.declared.stage.OpeningData.TheVariants.{Negotiating, Choosing, Locating, Binding, Asking}
 use Rattle.ftp_dialogue.specs.declared.stage.Resyncing.{Resyncing as Resync}
 use Rattle.ftp_dialogue.specs.declared.stage.Resyncing.TheVariants as resync
 use Rattle.ftp_dialogue.specs.declared.stage.Asking.TheVariants.{PeerPort, Connection, Peer, Accepting, Securing}

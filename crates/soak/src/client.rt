@@ -7,7 +7,7 @@ use crate::script::Script;
 use crate::server::STOP;
 use crate::tally::Tally;
 use anyhow::{Context, Result};
-use ftp_base::types::FtpResult;
+use ftp_base::types::{FtpResult, Mode};
 use ftp_blocking::FtpStream;
 use ftp_session::session::{Answer, Call};
 use rows_plays::{
@@ -82,6 +82,7 @@ where
 {
     let limit = Duration::from_secs(LIMIT);
     let client = FtpStream::connect_within(rt, &[address], limit).context("connecting")?;
+    client.set_mode(rt, Mode::Passive);
     let mut judge = Judge::new(rt.alloc(), script);
     for number in 0..LONGEST {
         if tally.calls >= calls {

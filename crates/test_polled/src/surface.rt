@@ -10,7 +10,7 @@ use std::net::{Net, TcpListener, TcpStream};
 use std::random::RandomSource;
 use std::sync::Wait;
 use std::test::Fail;
-use std::time::Clock;
+use std::time::{Clock, Duration};
 use std::{io, thread};
 use test_loopback::{listening, running, transport};
 
@@ -40,6 +40,29 @@ fn a_client_connects_to_an_address_that_is_a_text(rt: HostRuntime) -> Result<(),
     let served = serving.join(&rt).is_ok();
     // an error of kind InvalidInput
     assert_eq!(rt; (connected, without_port, served), (0, 1, true));
+    Ok(())
+}
+
+/// The number of the error of a client that connects to this text within a time.
+fn fault_within<R>(rt: &R, address: &str, limit: Duration) -> io::Result<u8>
+where
+    R: Net<Listener = TcpListener, Stream = TcpStream> + Wait + Clock + RandomSource + AllocGlobal,
+{
+    let mut runtime = running(rt)?;
+    let connect = Client::connect_to_within(rt, transport(&runtime)?, address, limit);
+    Ok(connects(rt, &mut runtime, connect))
+}
+
+#[test]
+fn a_client_connects_to_such_an_address_within_a_time(rt: HostRuntime) -> Result<(), Fail> {
+    let (listener, address) = listening(&rt)?;
+    let text = format!(in rt.alloc(); "{address}")?;
+    let serving = thread::spawn(&rt, move || greet(&listener))?;
+    let timeless = fault_within(&rt, text.as_str(), Duration::ZERO)?;
+    let connected = fault_within(&rt, text.as_str(), Duration::from_secs(5))?;
+    let served = serving.join(&rt).is_ok();
+    // TimedOut
+    assert_eq!(rt; (timeless, connected, served), (8, 0, true));
     Ok(())
 }
 
