@@ -14,4 +14,5 @@ pub mod Listing
 pub mod Times
 pub mod Facts
 pub mod Lines
+pub mod Names
 pub mod Entries
