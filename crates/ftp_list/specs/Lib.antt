@@ -15,4 +15,6 @@ pub mod Times
 pub mod Facts
 pub mod Lines
 pub mod Names
+pub mod OwnTypes
+pub mod Sorts
 pub mod Entries

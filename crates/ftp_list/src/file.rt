@@ -109,6 +109,26 @@ impl File {
         self.name.as_str()
     }
 
+    /// The name, taken out of the file.
+    pub(crate) fn into_name(self) -> Text
+        ensures { result ≡ self.name }
+    {
+        let Self {
+            name,
+            file_type,
+            size: _,
+            seconds: _,
+            nanoseconds: _,
+            uid: _,
+            gid: _,
+            owner: _,
+            group: _,
+            others: _,
+        } = self;
+        drop(file_type);
+        name
+    }
+
     /// Whether the name can be that of a file in a local directory: [`is_plain_name`](crate::is_plain_name).
     pub fn is_plain_name(&self) -> bool
         ensures { result ≡ is_plain_name self.now.name }
