@@ -19,7 +19,8 @@ impl<Tr: Network, K: Drop, E: Encoding, B: PassiveStreamBuilder<Tr::Conn>> ImplF
 where
     Tr::Conn: Conn,
 {
-    /// The files of this directory, or of the current one, as [`list_entries`](Self::list_entries) lists them.
+    /// The files of this directory, or of the current one, as [`list_entries`](Self::list_entries) lists them: without the directory itself and its
+    /// parents, and without what only the server's system has, as a device.
     ///
     /// # Errors
     /// Those of `list_entries`; `BadResponse` where one of the lines can't be read.
@@ -37,10 +38,11 @@ where
         }
     }
 
-    /// The files of this directory, or of the current one, and the lines that can't be read: by `MLSD`, where the reply to
-    /// `FEAT` names `MLST`, which stands for both (RFC 3659, section 7.8), or `MLSD`; else, and where the server refuses
-    /// `FEAT`, by `LIST`. The lines are read by [`Listing::of_mlsd`] or [`Listing::of_list`]. The directory itself and the
-    /// one above are among the files where the server lists them. `FEAT` and the listing are a hold of the lock each.
+    /// The listing of this directory, or of the current one: its files, the directory itself and its parents where the server
+    /// lists them, what only the server's system has, and the lines that can't be read. By `MLSD`, where the reply to `FEAT`
+    /// names `MLST`, which stands for both (RFC 3659, section 7.8), or `MLSD`; else, and where the server refuses `FEAT`, by
+    /// `LIST`. The lines are read by [`Listing::of_mlsd`] or [`Listing::of_list`]. `FEAT` and the listing are a hold of the
+    /// lock each.
     ///
     /// # Errors
     /// Those of `feat`, but for `UnexpectedResponse`; those of `mlsd` or `list`. After a listing by `LIST` `BadResponse`,

@@ -1,43 +1,44 @@
 -- What is read of one more line of a listing.
-use Rattle.std.proofs.Common.{◌≡◌, ℕ, ◌+◌, ◌<◌, true, false, cond, List, [], ◌∷◌, ◌++◌, length, take, map, get_or, sym, ◌∙◌, ap, subst, String, Global}
-use Rattle.std.specs.Prelude.{Result, Ok, Err}
+use Rattle.std.proofs.Common.{◌≡◌, ℕ, ◌+◌, ◌<◌, true, false, cond, List, [], ◌∷◌, ◌++◌, length, take, map, get_or, refl, sym, ◌∙◌, ap, subst, String, Global}
 use Rattle.std.proofs.lemmas.List.{map-append, append-nil, take_more}
 use Rattle.std.proofs.lemmas.List.Elements.{filter-append}
 use Rattle.std.specs.String.{string_bytes}
-use Rattle.ftp_list.specs.declared.error.ParseError.{ParseError}
-use Rattle.ftp_list.specs.declared.error.ParseError.TheVariants.{SyntaxError, InvalidDate, BadSize, OutOfMemory}
-use Rattle.ftp_list.specs.Entry.{Entry}
-use Rattle.ftp_list.specs.Listing.{UnlessMemory}
-use Rattle.ftp_list.specs.Entries.{IsRead, IsAdded, entries, is_entry}
-use Rattle.ftp_list.specs.Entries.IsRead.{Ended, Read, Unread}
+use Rattle.ftp_list.specs.declared.sorts.Sort.{Sort}
+use Rattle.ftp_list.specs.declared.sorts.Sort.TheVariants.{File, Around, Other, Unread}
+use Rattle.ftp_list.specs.Entries.{Contents, nothing, onto, added, IsRead, entries, is_entry}
+use Rattle.ftp_list.specs.Entries.IsRead.{Ended, Read}
 
--- a file
-one_more_file : (Says : List ℕ → Result Entry ParseError → Type 0) {lines : List (List ℕ)} {files : List Entry} {unread : List (List ℕ)} (line : List ℕ) (entry : Entry) → Says line (Ok entry) → IsRead Says lines files unread → IsRead Says (lines ++ line ∷ []) (files ++ entry ∷ []) unread
-one_more_file Says line entry h Ended = Read h Ended
-one_more_file Says line entry h (Read g r) = Read g (one_more_file Says line entry h r)
-one_more_file Says line entry h (Unread g r) = Unread g (one_more_file Says line entry h r)
+-- a line put before the others and one behind them
+onto-added : (line other : List ℕ) (sort sort' : Sort) (contents : Contents) → onto other sort' (added line sort contents) ≡ added line sort (onto other sort' contents)
+onto-added line other (File entry) (File entry') contents = refl
+onto-added line other (File entry) (Around entry') contents = refl
+onto-added line other (File entry) (Other file') contents = refl
+onto-added line other (File entry) Unread contents = refl
+onto-added line other (Around entry) (File entry') contents = refl
+onto-added line other (Around entry) (Around entry') contents = refl
+onto-added line other (Around entry) (Other file') contents = refl
+onto-added line other (Around entry) Unread contents = refl
+onto-added line other (Other file) (File entry') contents = refl
+onto-added line other (Other file) (Around entry') contents = refl
+onto-added line other (Other file) (Other file') contents = refl
+onto-added line other (Other file) Unread contents = refl
+onto-added line other Unread (File entry') contents = refl
+onto-added line other Unread (Around entry') contents = refl
+onto-added line other Unread (Other file') contents = refl
+onto-added line other Unread Unread contents = refl
 
--- a line that can't be read
-one_more_line : (Says : List ℕ → Result Entry ParseError → Type 0) {lines : List (List ℕ)} {files : List Entry} {unread : List (List ℕ)} (line : List ℕ) (fault : ParseError) → Says line (Err fault) → IsRead Says lines files unread → IsRead Says (lines ++ line ∷ []) files (unread ++ line ∷ [])
-one_more_line Says line fault h Ended = Unread h Ended
-one_more_line Says line fault h (Read g r) = Read g (one_more_line Says line fault h r)
-one_more_line Says line fault h (Unread g r) = Unread g (one_more_line Says line fault h r)
+one_alone : (Says : List ℕ → Sort → Type 0) (line : List ℕ) (sort : Sort) → Says line sort → IsRead Says (line ∷ []) (added line sort nothing)
+one_alone Says line (File entry) h = Read h Ended
+one_alone Says line (Around entry) h = Read h Ended
+one_alone Says line (Other file) h = Read h Ended
+one_alone Says line Unread h = Read h Ended
 
--- either
-pub read_more : (Says : List ℕ → Result Entry ParseError → Type 0) (lines : List (List ℕ)) (files : List Entry) (unread : List (List ℕ)) (line : List ℕ) (answer : Result Entry ParseError) (new_files : List Entry) (new_unread : List (List ℕ)) → IsRead Says lines files unread → UnlessMemory (Says line) answer → IsAdded line answer files unread new_files new_unread → IsRead Says (lines ++ line ∷ []) new_files new_unread
-read_more Says lines files unread line (Ok entry) new_files new_unread r h is =
-    subst (λ (f : List Entry). IsRead Says (lines ++ line ∷ []) f new_unread) (sym is.0)
-    (subst (λ (u : List (List ℕ)). IsRead Says (lines ++ line ∷ []) (files ++ entry ∷ []) u) (sym is.1) (one_more_file Says line entry h r))
-read_more Says lines files unread line (Err SyntaxError) new_files new_unread r h is =
-    subst (λ (f : List Entry). IsRead Says (lines ++ line ∷ []) f new_unread) (sym is.0)
-    (subst (λ (u : List (List ℕ)). IsRead Says (lines ++ line ∷ []) files u) (sym is.1) (one_more_line Says line SyntaxError h r))
-read_more Says lines files unread line (Err InvalidDate) new_files new_unread r h is =
-    subst (λ (f : List Entry). IsRead Says (lines ++ line ∷ []) f new_unread) (sym is.0)
-    (subst (λ (u : List (List ℕ)). IsRead Says (lines ++ line ∷ []) files u) (sym is.1) (one_more_line Says line InvalidDate h r))
-read_more Says lines files unread line (Err BadSize) new_files new_unread r h is =
-    subst (λ (f : List Entry). IsRead Says (lines ++ line ∷ []) f new_unread) (sym is.0)
-    (subst (λ (u : List (List ℕ)). IsRead Says (lines ++ line ∷ []) files u) (sym is.1) (one_more_line Says line BadSize h r))
-read_more Says lines files unread line (Err OutOfMemory) new_files new_unread r h is = absurd is
+-- one more line
+pub read_more : (Says : List ℕ → Sort → Type 0) {lines : List (List ℕ)} {contents : Contents} (line : List ℕ) (sort : Sort) → Says line sort → IsRead Says lines contents → IsRead Says (lines ++ line ∷ []) (added line sort contents)
+read_more Says line sort h Ended = one_alone Says line sort h
+read_more Says line sort h (Read {line = other} {sort = sort'} {lines = lines} {others = contents} g r) =
+    subst (λ (read : Contents). IsRead Says (other ∷ (lines ++ line ∷ [])) read) (onto-added line other sort sort' contents)
+    (Read g (read_more Says line sort h r))
 
 -- one more line that is a file's
 pub entries_more : (lines : List (List ℕ)) (line : List ℕ) → is_entry line ≡ true → entries (lines ++ line ∷ []) ≡ entries lines ++ line ∷ []

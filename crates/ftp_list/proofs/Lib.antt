@@ -12,3 +12,5 @@ pub mod ListingFacts
 pub mod FactFacts
 pub mod LawFacts
 pub mod EntryFacts
+pub mod OwnTypeFacts
+pub mod SortFacts

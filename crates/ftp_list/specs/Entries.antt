@@ -1,16 +1,17 @@
 -- What the lines of a whole listing say. A line is the bytes of its text.
-use Rattle.std.specs.Prelude.{map, ◌⊎◌, ◌≡◌, ℕ, Bool, not, ◌&&◌, ◌==◌, nat_lt, List, [], ◌∷◌, ◌++◌, length, drop, filter, Result, Ok, Err, ℤ, codes}
+use Rattle.std.specs.Prelude.{map, ◌⊎◌, ◌≡◌, ℕ, Bool, not, ◌&&◌, ◌==◌, nat_lt, List, [], ◌∷◌, ◌++◌, length, drop, filter, codes}
 use Rattle.std.specs.Char.{to_ascii_lowercase}
 use Rattle.std.specs.Str.{chars}
+use Rattle.std.specs.String.{string_bytes}
 use Rattle.ftp_list.specs.declared.class.Class.TheVariants.{Digit}
-use Rattle.ftp_list.specs.declared.error.ParseError.{ParseError}
-use Rattle.ftp_list.specs.declared.error.ParseError.TheVariants.{SyntaxError, OutOfMemory}
+use Rattle.ftp_list.specs.declared.entries.Listing.{Listing}
+use Rattle.ftp_list.specs.declared.other_file.OtherFile.{OtherFile}
+use Rattle.ftp_list.specs.declared.sorts.Sort.{Sort}
+use Rattle.ftp_list.specs.declared.sorts.Sort.TheVariants.{File, Around, Other, Unread}
 use Rattle.ftp_list.specs.Entry.{Entry}
 use Rattle.ftp_list.specs.Places.{begins}
 use Rattle.ftp_list.specs.Shapes.{all_in}
 use Rattle.ftp_list.specs.Texts.{trim, trim_front}
-use Rattle.ftp_list.specs.Listing.{IsPosix, IsDos}
-use Rattle.ftp_list.specs.Facts.{mlsd}
 
 -- blanks, and then digits alone
 abbrev pub is_spaced_number : List ℕ → Bool
@@ -34,35 +35,46 @@ is_entry line = is_entry_text (chars line)
 abbrev pub entries : List (List ℕ) → List (List ℕ)
 entries lines = filter is_entry lines
 
--- After the POSIX form: what it says, or, of a line that doesn't have it at all, what the DOS form says.
-abbrev pub IsUnlessDos : List ℕ → Result Entry ParseError → Result Entry ParseError → Type 0
-IsUnlessDos text (Err SyntaxError) answer = IsDos text answer
-IsUnlessDos text posix answer = answer ≡ posix
+-- What was read of a listing, each part in the order of the lines.
+pub record Contents : Type 0 where
+  pub files : List Entry
+  pub around : List Entry
+  pub others : List OtherFile
+  pub unread : List (List ℕ)
 
--- What a line of LIST says at an instant: the POSIX form, or the DOS form where it doesn't have the POSIX form at all.
-abbrev pub IsOfList : ℤ → List ℕ → Result Entry ParseError → Type 0
-IsOfList nanosecond line answer =
-    (posix : Result Entry ParseError) × IsPosix (chars line) nanosecond posix × IsUnlessDos (chars line) posix answer
+-- the contents of a listing
+abbrev pub contents : Listing → Contents
+contents listing =
+    record {
+      files = listing.files.items;
+      around = listing.around.items;
+      others = listing.others.items;
+      unread = map string_bytes listing.unread.items;
+    }
 
--- What a line of MLSD says.
-abbrev pub IsOfMlsd : List ℕ → Result Entry ParseError → Type 0
-IsOfMlsd line answer = answer ≡ mlsd (chars line)
+-- nothing was read
+abbrev pub nothing : Contents
+nothing = record { files = []; around = []; others = []; unread = [] }
 
--- What is read of lines, in their order: a line that says a file is that file, any other is left unread, as it came.
-pub data IsRead (Says : List ℕ → Result Entry ParseError → Type 0) : List (List ℕ) → List Entry → List (List ℕ) → Type 0 where
-  Ended : IsRead Says [] [] []
-  Read : {line : List ℕ} {entry : Entry} {lines : List (List ℕ)} {files : List Entry} {unread : List (List ℕ)}
-      → Says line (Ok entry) → IsRead Says lines files unread → IsRead Says (line ∷ lines) (entry ∷ files) unread
-  Unread : {line : List ℕ} {fault : ParseError} {lines : List (List ℕ)} {files : List Entry} {unread : List (List ℕ)}
-      → Says line (Err fault) → IsRead Says lines files unread → IsRead Says (line ∷ lines) files (line ∷ unread)
+-- a line of this sort before the others: a line that can't be read is kept as it came
+abbrev pub onto : List ℕ → Sort → Contents → Contents
+onto line (File entry) others = record others { files = entry ∷ others.files }
+onto line (Around entry) others = record others { around = entry ∷ others.around }
+onto line (Other file) others = record others { others = file ∷ others.others }
+onto line Unread others = record others { unread = line ∷ others.unread }
 
--- What was read of one more line is added to what was read, unless an allocation failed.
-abbrev pub IsAdded : List ℕ → Result Entry ParseError → List Entry → List (List ℕ) → List Entry → List (List ℕ) → Type 0
-IsAdded line (Ok entry) files unread new_files new_unread =
-    (new_files ≡ files ++ entry ∷ []) × (new_unread ≡ unread)
-IsAdded line (Err OutOfMemory) files unread new_files new_unread = ⊥
-IsAdded line (Err fault) files unread new_files new_unread =
-    (new_files ≡ files) × (new_unread ≡ unread ++ line ∷ [])
+-- a line of this sort behind the others
+abbrev pub added : List ℕ → Sort → Contents → Contents
+added line (File entry) others = record others { files = others.files ++ entry ∷ [] }
+added line (Around entry) others = record others { around = others.around ++ entry ∷ [] }
+added line (Other file) others = record others { others = others.others ++ file ∷ [] }
+added line Unread others = record others { unread = others.unread ++ line ∷ [] }
+
+-- What is read of lines, in their order: each line is put where its sort has it.
+pub data IsRead (Says : List ℕ → Sort → Type 0) : List (List ℕ) → Contents → Type 0 where
+  Ended : IsRead Says [] nothing
+  Read : {line : List ℕ} {sort : Sort} {lines : List (List ℕ)} {others : Contents}
+      → Says line sort → IsRead Says lines others → IsRead Says (line ∷ lines) (onto line sort others)
 
 -- The name of a feature by which a server has MLSD, in any case (RFC 3659, section 7.8).
 abbrev pub NamesFacts : List ℕ → Type 0

@@ -14,4 +14,7 @@ pub mod Listing
 pub mod Times
 pub mod Facts
 pub mod Lines
+pub mod Names
+pub mod OwnTypes
+pub mod Sorts
 pub mod Entries

@@ -3,16 +3,17 @@
 //!
 //! A line that can't be read doesn't take the others away: it is kept by its text. `LIST` is read a line in the POSIX
 //! form or the DOS form, and what `ls -l` adds to its lines is left out.
-ghost use Rattle.std.specs.Prelude.{◌≡◌, ◌↔◌, [], IfOk, IfSome, IsSome, IsTrue, OnOk, map, vec_len};
+ghost use Rattle.std.specs.Prelude.{◌≡◌, ◌↔◌, IfOk, IfSome, IsSome, IsTrue, OnOk, map, vec_len};
 ghost use Rattle.std.specs.String.{string_bytes};
-ghost use Rattle.ftp_list.specs.Listing.{UnlessMemory};
-ghost use Rattle.ftp_list.specs.Entries.{NamesFacts, is_spaced_number, is_total, is_entry_text, is_entry, entries, IsAdded, IsOfList, IsOfMlsd, IsRead};
+ghost use Rattle.ftp_list.specs.Entries.{NamesFacts, is_spaced_number, is_total, is_entry_text, is_entry, entries, contents, nothing, added, IsRead};
+ghost use Rattle.ftp_list.specs.Sorts.{IsOfList, IsOfMlsd};
 
 use crate::class::Class;
-use crate::error::{ParseError, ParseResult};
 use crate::file::File;
-use crate::parser::{ListParser, ROOM};
+use crate::other_file::OtherFile;
+use crate::parser::ROOM;
 use crate::places::{begins_with, rest};
+use crate::sorts::{Sort, sort_in_list, sort_in_mlsd};
 use crate::trims::{chars_of, copied_line, trimmed, trimmed_front};
 use jiff::Timestamp;
 use std::alloc::{AllocError, Global};
@@ -22,8 +23,14 @@ const TOTAL: [char; 5] = ['t', 'o', 't', 'a', 'l'];
 /// What was read of a listing, each part in the order of the lines.
 #[derive(Debug, Drop)]
 pub struct Listing {
-    /// The files.
+    /// The files of the directory. A symbolic link is one, also in `MLSD` where its type is `OS.unix=slink` or
+    /// `OS.unix=symlink`, with its target or without.
     pub files: Vec<File>,
+    /// The listed directory itself and its parents: what is named `.` or `..`, and in `MLSD` what is of type `cdir` or
+    /// `pdir`, whatever its name.
+    pub around: Vec<File>,
+    /// What has a type of the server's own in `MLSD`, `OS.name=kind` (RFC 3659, section 7.5.1.5), as a device or a socket.
+    pub others: Vec<OtherFile>,
     /// The lines that can't be read, as they came.
     pub unread: Vec<String>,
 }
@@ -37,31 +44,31 @@ impl Listing {
     /// `AllocError`.
     pub fn of_list(alloc: Global, lines: &[String], now: Timestamp) -> Result<Listing, AllocError>
         ensures read { IfOk result (λ listing. IsRead (IsOfList now.nanosecond)
-            (entries (map string_bytes lines.now))
-            listing.files.items (map string_bytes listing.unread.items)) }
+            (entries (map string_bytes lines.now)) (contents listing)) }
     {
         let mut listing = Listing::empty(alloc);
         for line in lines {
             let text = line.as_str();
             if is_of_file(alloc, text)? {
-                listing.add(alloc, text, file_in_list(alloc, text, now))?;
+                listing.add(alloc, text, sort_in_list(alloc, text, now)?)?;
             }
         }
         Ok(listing)
     }
 
-    /// What the lines of `MLSD` say, each as `ListParser::parse_mlsd` reads it.
+    /// What the lines of `MLSD` say, each as `ListParser::parse_mlsd` reads it, but for a type of the server's own: beside
+    /// it the other facts are read in the same way, and of several the last counts.
     ///
     /// # Errors
     /// `AllocError`.
     pub fn of_mlsd(alloc: Global, lines: &[String]) -> Result<Listing, AllocError>
-        ensures read { IfOk result (λ listing. IsRead IsOfMlsd (map string_bytes lines.now)
-            listing.files.items (map string_bytes listing.unread.items)) }
+        ensures read { IfOk result (λ listing.
+            IsRead IsOfMlsd (map string_bytes lines.now) (contents listing)) }
     {
         let mut listing = Listing::empty(alloc);
         for line in lines {
             let text = line.as_str();
-            listing.add(alloc, text, ListParser::parse_mlsd(alloc, text))?;
+            listing.add(alloc, text, sort_in_mlsd(alloc, text)?)?;
         }
         Ok(listing)
     }
@@ -71,33 +78,40 @@ impl Listing {
         ensures complete { IsSome result ↔ (vec_len self.unread ≡ 0) }
         ensures files { IfSome result (λ files. files ≡ self.files) }
     {
-        let Listing { files, unread } = self;
+        let Listing {
+            files,
+            around,
+            others,
+            unread,
+        } = self;
+        drop(around);
+        drop(others);
         if unread.is_empty() { Some(files) } else { None }
     }
 
     fn empty(alloc: Global) -> Listing
-        ensures files { result.files.items ≡ [] }
-        ensures unread { result.unread.items ≡ [] }
+        ensures { contents result ≡ nothing }
     {
         Listing {
             files: Vec::new(alloc),
+            around: Vec::new(alloc),
+            others: Vec::new(alloc),
             unread: Vec::new(alloc),
         }
     }
 
-    /// Adds what was read of a line: its file, or else the line.
+    /// Adds a line of this sort.
     ///
     /// # Errors
-    /// `AllocError`, also where the line wasn't read because an allocation failed.
-    fn add(&mut self, alloc: Global, line: &str, read: ParseResult<File>) -> Result<(), AllocError>
-        ensures added { OnOk result (IsAdded line.now read
-            self.old.files.items (map string_bytes self.old.unread.items)
-            self.new.files.items (map string_bytes self.new.unread.items)) }
+    /// `AllocError`.
+    fn add(&mut self, alloc: Global, line: &str, sort: Sort) -> Result<(), AllocError>
+        ensures added { OnOk result (contents self.new ≡ added line.now sort (contents self.old)) }
     {
-        match read {
-            Ok(file) => self.files.push(file)?,
-            Err(ParseError::OutOfMemory) => return Err(AllocError),
-            Err(_) => self.unread.push(String::from_str(alloc, line)?)?,
+        match sort {
+            Sort::File(file) => self.files.push(file)?,
+            Sort::Around(file) => self.around.push(file)?,
+            Sort::Other(file) => self.others.push(file)?,
+            Sort::Unread => self.unread.push(String::from_str(alloc, line)?)?,
         }
         Ok(())
     }
@@ -109,16 +123,6 @@ pub fn names_facts(feature: &str) -> bool
     ensures { IsTrue result ↔ NamesFacts feature.now }
 {
     feature.eq_ignore_ascii_case("mlst") || feature.eq_ignore_ascii_case("mlsd")
-}
-
-/// The file of a line of `LIST`.
-fn file_in_list(alloc: Global, line: &str, now: Timestamp) -> ParseResult<File>
-    ensures { UnlessMemory (IsOfList now.nanosecond line.now) result }
-{
-    match ListParser::parse_posix(alloc, line, now) {
-        Err(ParseError::SyntaxError) => ListParser::parse_dos(alloc, line),
-        read => read,
-    }
 }
 
 /// Whether a line of `LIST` is that of a file.

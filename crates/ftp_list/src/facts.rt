@@ -49,8 +49,8 @@ pub fn parse_mlsd(alloc: Global, text: &[char]) -> ParseResult<File>
     with_all_facts(alloc, file, facts)
 }
 
-// The name, and the text in which the facts stand.
-fn name_and_facts(text: &[char]) -> (&[char], &[char])
+/// The name, and the text in which the facts stand.
+pub fn name_and_facts(text: &[char]) -> (&[char], &[char])
     ensures name { result.0.now ≡ mlsx_name text.now }
     ensures facts { result.1.now ≡ mlsx_facts text.now }
 {
@@ -75,8 +75,8 @@ fn last_piece(text: &[char]) -> &[char]
     rest(text, count)
 }
 
-// A file of that name of which nothing else is said.
-fn file_named(alloc: Global, name: &[char]) -> Result<File, AllocError>
+/// A file of that name of which nothing else is said.
+pub fn file_named(alloc: Global, name: &[char]) -> Result<File, AllocError>
     ensures { IfOk result (λ file. file ≡ named name.now) }
 {
     Ok(File {
@@ -112,8 +112,8 @@ fn with_all_facts(alloc: Global, file: File, text: &[char]) -> ParseResult<File>
     }
 }
 
-// The place of the first semicolon, or the length.
-fn semicolon_in(text: &[char]) -> usize
+/// The place of the first semicolon, or the length.
+pub fn semicolon_in(text: &[char]) -> usize
     ensures value { result ≡ position_or_len (λ c. c == 59) text.now }
     ensures bound { result ≤ length text.now }
 {
@@ -125,7 +125,8 @@ fn semicolon_in(text: &[char]) -> usize
     text.len()
 }
 
-fn with_one_piece(alloc: Global, file: File, piece: &[char]) -> ParseResult<File>
+/// A piece without = changes nothing.
+pub fn with_one_piece(alloc: Global, file: File, piece: &[char]) -> ParseResult<File>
     ensures { result ≡ with_piece file piece.now }
 {
     let end = place_of(piece, &EQUALS);

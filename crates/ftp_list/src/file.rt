@@ -5,9 +5,11 @@
 ghost use Rattle.std.specs.Prelude.{◌≡◌, ◌+◌, ◌*◌};
 ghost use Rattle.std.specs.Option.{option_map};
 ghost use Rattle.std.specs.Duration.{as_nanos};
+ghost use Rattle.ftp_list.specs.Names.{is_plain_name};
 ghost use Rattle.ftp_list.specs.FileTypes.{is_directory, is_file, is_symlink, target_of};
 
 use crate::file_type::FileType;
+use crate::names;
 use crate::pex::{PosixPex, PosixPexQuery};
 use ftp_base::types::Text;
 use std::alloc::AllocError;
@@ -105,6 +107,33 @@ impl File {
         ensures { result.now ≡ self.now.name }
     {
         self.name.as_str()
+    }
+
+    /// The name, taken out of the file.
+    pub(crate) fn into_name(self) -> Text
+        ensures { result ≡ self.name }
+    {
+        let Self {
+            name,
+            file_type,
+            size: _,
+            seconds: _,
+            nanoseconds: _,
+            uid: _,
+            gid: _,
+            owner: _,
+            group: _,
+            others: _,
+        } = self;
+        drop(file_type);
+        name
+    }
+
+    /// Whether the name can be that of a file in a local directory: [`is_plain_name`](crate::is_plain_name).
+    pub fn is_plain_name(&self) -> bool
+        ensures { result ≡ is_plain_name self.now.name }
+    {
+        names::is_plain_name(self.name())
     }
 
     /// The kind of file.

@@ -29,8 +29,7 @@ enum Turn {
     Lines,
 }
 
-/// The files of a directory, and the lines that can't be read: `FEAT`, and then `MLSD` or `LIST`, each in a hold of the
-/// lock.
+/// The listing of a directory: `FEAT`, and then `MLSD` or `LIST`, each in a hold of the lock.
 ///
 /// Dropped, it drops the call that is under way, as a [`Dialogue`](crate::Dialogue) is dropped.
 pub struct ListEntries<'r, R, Tr: TaskTransport, K: Drop, E: Encoding, B: Drop>
@@ -206,7 +205,8 @@ impl<Tr: TaskTransport, K: Drop, E: Encoding, B: Drop> ImplAsyncFtpStream<Tr, K,
 where
     Tr::Conn: TaskConn,
 {
-    /// The files of this directory, or of the current one, as `list_entries` lists them.
+    /// The files of this directory, or of the current one, as `list_entries` lists them: without the directory itself and its
+    /// parents, and without what only the server's system has, as a device.
     ///
     /// # Errors
     /// Those of `list_entries`; `BadResponse` where one of the lines can't be read.
@@ -220,10 +220,11 @@ where
         }
     }
 
-    /// The files of this directory, or of the current one, and the lines that can't be read: by `MLSD`, where the reply to
-    /// `FEAT` names `MLST`, which stands for both (RFC 3659, section 7.8), or `MLSD`; else, and where the server refuses
-    /// `FEAT`, by `LIST`. The lines are read by [`Listing::of_mlsd`] or [`Listing::of_list`]. The directory itself and the
-    /// one above are among the files where the server lists them. `FEAT` and the listing are a hold of the lock each.
+    /// The listing of this directory, or of the current one: its files, the directory itself and its parents where the server
+    /// lists them, what only the server's system has, and the lines that can't be read. By `MLSD`, where the reply to `FEAT`
+    /// names `MLST`, which stands for both (RFC 3659, section 7.8), or `MLSD`; else, and where the server refuses `FEAT`, by
+    /// `LIST`. The lines are read by [`Listing::of_mlsd`] or [`Listing::of_list`]. `FEAT` and the listing are a hold of the
+    /// lock each.
     ///
     /// # Errors
     /// Those of `feat`, but for `UnexpectedResponse`; those of `mlsd` or `list`. After a listing by `LIST` `BadResponse`,

@@ -1,14 +1,17 @@
 //! Lines of listings, and how a text is split into parts.
 
-ghost use Rattle.std.specs.Prelude.{◌≡◌, IfOk, MatchOption};
+ghost use Rattle.std.specs.Prelude.{◌≡◌, IfOk, MatchOption, map};
 ghost use Rattle.std.specs.Str.{chars};
+ghost use Rattle.std.specs.String.{string_bytes};
+ghost use Rattle.ftp_list.specs.Entries.{contents, IsRead};
 ghost use Rattle.ftp_list.specs.Facts.{mlsd};
 ghost use Rattle.ftp_list.specs.Lines.{IsListed};
 ghost use Rattle.ftp_list.specs.Listing.{IsDos, IsPosix, UnlessMemory};
+ghost use Rattle.ftp_list.specs.Sorts.{IsOfMlsd};
 ghost use Rattle.ftp_list.specs.Split.{HasNoSplit, IsGreatestSplit};
 
 use ftp_list::plain::{self, Shape};
-use ftp_list::{File, ListParser, ParseResult};
+use ftp_list::{File, ListParser, Listing, ParseResult};
 use jiff::Timestamp;
 use std::alloc::{AllocError, Global};
 
@@ -38,6 +41,14 @@ pub fn from_line(alloc: Global, line: &str, now: Timestamp) -> ParseResult<File>
     ensures exact { UnlessMemory (IsListed (chars line.now) now.nanosecond) result }
 {
     File::from_line(alloc, line, now)
+}
+
+/// `Listing::of_mlsd`.
+pub fn of_mlsd(alloc: Global, lines: &[String]) -> Result<Listing, AllocError>
+    ensures read { IfOk result (λ listing.
+        IsRead IsOfMlsd (map string_bytes lines.now) (contents listing)) }
+{
+    Listing::of_mlsd(alloc, lines)
 }
 
 /// `plain::greatest_split`.

@@ -25,7 +25,7 @@ pub use ftp_calls::{answers, call};
 pub use ftp_control::control;
 pub use ftp_list as list;
 /// What kind of entry a file of a listing is, which `list` calls a `FileType`; the other `FileType` is that of `TYPE`.
-pub use ftp_list::{File, FileType as EntryKind, ListParser, Listing};
+pub use ftp_list::{File, FileType as EntryKind, ListParser, Listing, OtherFile};
 pub use ftp_secure::{DataStream, Secured, TlsConnector, TlsStream};
 pub use ftp_session::session::{DownloadReader, Failure};
 pub use ftp_transfer::{NoProgress, Progress, mark};

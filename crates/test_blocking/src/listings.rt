@@ -41,7 +41,7 @@ fn files_are_listed_by_their_facts_where_the_server_has_them(rt: HostRuntime) ->
     let files = listed(&rt, replies, data, Some("pub"))?;
     assert_eq!(rt;
         files.as_str(),
-        ".. 0|capmux.tar.z 25730|0|FEAT\r\nPASV\r\nMLSD pub\r\nNOOP\r\n"
+        "capmux.tar.z 25730|0|FEAT\r\nPASV\r\nMLSD pub\r\nNOOP\r\n"
     );
     Ok(())
 }
@@ -75,7 +75,8 @@ fn a_line_that_cannot_be_read_is_an_error_and_the_session_goes_on(
     Ok(())
 }
 
-/// What is in the listing of a directory: each file with its size, and each line that can't be read; and what was sent.
+/// What is in the listing of a directory: each file with its size, the names of what lies around and of what only the
+/// server's system has, and each line that can't be read; and what was sent.
 fn entries<R>(rt: &R, replies: &str, data: &str) -> Result<String, Fail>
 where
     R: Clock + Wait + AllocGlobal,
@@ -85,6 +86,12 @@ where
     let mut text = String::new(rt.alloc());
     for file in &listing.files {
         write!(text, "{} {}|", file.name(), file.size())?;
+    }
+    for file in &listing.around {
+        write!(text, "@{}|", file.name())?;
+    }
+    for file in &listing.others {
+        write!(text, "{} is {}|", file.name(), file.kind())?;
     }
     for line in &listing.unread {
         write!(text, "?{line}|")?;
@@ -102,6 +109,24 @@ fn lines_that_cannot_be_read_leave_the_files(rt: HostRuntime) -> Result<(), Fail
     assert_eq!(rt;
         text.as_str(),
         "a.txt 1234|b.txt 8192|?hello|?total of 8|FEAT\r\nPASV\r\nLIST pub\r\n"
+    );
+    Ok(())
+}
+
+#[test]
+fn a_device_and_the_directory_itself_are_no_files(rt: HostRuntime) -> Result<(), Fail> {
+    let replies =
+        "211-F\r\n MLST type*;\r\n211 end\r\n227 ok (10,0,0,1,4,0)\r\n150 b\r\n226 d\r\n200 ok\r\n";
+    let data =
+        "type=cdir; .\r\ntype=OS.unix=slink:/a;size=6; l\r\ntype=OS.unix=blkdev-8/1; sda1\r\n";
+    let text = entries(&rt, replies, data)?;
+    let files = listed(&rt, replies, data, Some("pub"))?;
+    assert_eq!(rt;
+        (text.as_str(), files.as_str()),
+        (
+            "l 6|@.|sda1 is OS.unix=blkdev-8/1|FEAT\r\nPASV\r\nMLSD pub\r\n",
+            "l 6|0|FEAT\r\nPASV\r\nMLSD pub\r\nNOOP\r\n",
+        )
     );
     Ok(())
 }

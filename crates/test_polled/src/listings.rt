@@ -111,7 +111,7 @@ fn files_are_listed_by_their_facts_where_the_server_has_them(rt: HostRuntime) ->
     drop(scene);
     assert_eq!(rt;
         (text.as_str(), fed, sent),
-        (".. 0|capmux.tar.z 25730|", true, true)
+        ("capmux.tar.z 25730|", true, true)
     );
     Ok(())
 }

@@ -61,3 +61,5 @@ mod tokio_requests;
 mod tokio_traffic;
 #[cfg(test)]
 mod transfers;
+#[cfg(test)]
+mod whole_listings;

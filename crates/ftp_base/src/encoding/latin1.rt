@@ -12,9 +12,10 @@ use std::io::ErrorKind;
 /// ISO 8859-1 (Latin-1): each byte is the character of its number. A text with a character past U+00FF is refused, as
 /// `InvalidInput`.
 ///
-/// Every name that a server sends is a text of its own here, which is sent back as the same bytes, so a file of any name
-/// can be listed, fetched, renamed and deleted. UTF-8, RFC 2640's default and [`Utf8Encoding`](super::Utf8Encoding), shows
-/// the names of most servers rightly, but of one that isn't UTF-8 it shows what can't be sent back.
+/// Every name that a server sends is a text of its own here, which is sent back as the same bytes. So a file of any name can
+/// be listed, fetched, renamed and deleted, but for one with a CR or LF, which no command can carry. UTF-8, RFC 2640's
+/// default and [`Utf8Encoding`](super::Utf8Encoding), shows the names of most servers rightly, but a name that isn't UTF-8
+/// as a text that is sent back as other bytes.
 #[derive(Clone, Copy, Debug, Default, PartialEq, Eq)]
 pub struct Latin1Encoding;
 

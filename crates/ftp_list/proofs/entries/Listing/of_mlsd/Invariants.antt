@@ -1,9 +1,8 @@
 use Rattle.std.proofs.Common.{map, take}
 use Rattle.std.specs.String.{string_bytes}
-use Rattle.ftp_list.specs.Entries.{IsOfMlsd, IsRead}
+use Rattle.ftp_list.specs.Entries.{contents, IsRead}
+use Rattle.ftp_list.specs.Sorts.{IsOfMlsd}
 use Rattle.ftp_list.proofs.entries.Listing.of_mlsd.Given as goal
 
 abbrev pub invariant-loop-line : goal.invariant-loop-line
-invariant-loop-line l =
-    IsRead IsOfMlsd (map string_bytes (take l.line-index l.lines))
-    l.listing.files.items (map string_bytes l.listing.unread.items)
+invariant-loop-line l = IsRead IsOfMlsd (map string_bytes (take l.line-index l.lines)) (contents l.listing)
