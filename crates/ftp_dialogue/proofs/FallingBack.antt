@@ -28,7 +28,7 @@ module _ (call : Call) (a : Awaits) (stage' : Stage) (of : StageOf call (Hearing
   falls_stage =
       let O : Turn → Type 0 = λ turn. TurnOf call turn in
       let S : Turn → Type 0 = λ turn. StageOf call (At (falling_back turn)) in
-      let opens = subst O turn_is.1 of.2.2 in
+      let opens = subst O turn_is.1 of.2 in
       subst (λ stage. StageOf call stage) (sym at) (subst S (sym turn_is.1) opens)
 
   pub falls_fewer : nodes_left stage' < nodes_left (Hearing a)

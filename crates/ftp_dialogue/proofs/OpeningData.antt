@@ -1,5 +1,5 @@
 -- Which exchanges lead to a data connection.
-use Rattle.std.proofs.Common.{◌≡◌, ◌<◌, ◌-◌, ◌+◌, Bool, true, false, not, ◌&&◌, ◌||◌, is_none, Option, Some, None, inl, refl, ap, sym, ◌∙◌, subst, arith}
+use Rattle.std.proofs.Common.{ℕ, ◌≡◌, ◌<◌, ◌-◌, ◌+◌, Bool, true, false, not, ◌&&◌, ◌||◌, is_none, Option, Some, None, inl, refl, ap, sym, ◌∙◌, subst, arith}
 use Rattle.ftp_calls.proofs.Openings.{opens_alike, row_is_own}
 use Rattle.ftp_calls.specs.declared.call.Answer.{Answer}
 use Rattle.ftp_calls.specs.declared.call.Call.{Call}

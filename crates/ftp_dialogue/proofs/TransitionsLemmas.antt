@@ -397,7 +397,7 @@ aborts_after link tree tree' a b c begun answer still second = record {
 pub read_is_quiet : (call : Call) (stage : Stage) → StageOf call stage → is_read call ≡ true → begun_at stage ≡ false
 read_is_quiet call (At First) stage_of read = refl
 read_is_quiet call (At Second) stage_of read = let clash : true ≡ false = sym read ∙ stage_of.0 in cc
-read_is_quiet call (At (Passive offset after)) stage_of read = refl
+read_is_quiet call (At (Passive offset after)) stage_of read = let clash : true ≡ false = sym read ∙ read_opens_none call stage_of in cc
 read_is_quiet call (At (ExtendedPassive offset tries)) stage_of read = refl
 read_is_quiet call (At (Active address offset)) stage_of read = refl
 read_is_quiet call (At (Restart offset)) stage_of read = let clash : true ≡ false = sym read ∙ read_opens_none call stage_of in cc
