@@ -4,6 +4,7 @@
 //! names; `examples all` runs all with a server of its own. What they write here is removed again.
 #![tactic(auto)]
 
+mod drive;
 mod folder;
 mod list;
 mod login;
@@ -55,8 +56,12 @@ where
 {
     let words: Vec<String> = env::args(rt)?.skip(1).collect(rt.alloc())?;
     match words.as_slice() {
-        [name, address] => run(rt, name.as_str(), address.as_str()),
         [name] if name.as_str() == "all" => run_all(rt),
+        [name, servers @ ..] if name.as_str() == "drive" => {
+            drive::run(rt, servers)?;
+            Ok(true)
+        }
+        [name, address] => run(rt, name.as_str(), address.as_str()),
         _ => Ok(false),
     }
 }
