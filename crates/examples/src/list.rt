@@ -1,21 +1,27 @@
-//! The files of a directory.
+//! The entries of a directory.
 
+use crate::login::logged_in;
+use anyhow::Result;
 use std::sync::Wait;
-use suppaftp::{File, FtpResult, FtpStream, Host};
+use suppaftp::{FtpResult, FtpStream, Host};
 
-/// Logs in, and lists the files of a directory.
-pub fn listed<R: Host + Wait>(rt: &R, address: &str, directory: &str) -> FtpResult<Vec<File>> {
-    let client = FtpStream::connect_to(rt, address)?;
-    client.login(rt, "anonymous", "guest@example.org")?;
-    let files = client.list_files(rt, Some(directory))?;
-    client.quit(rt)?;
-    Ok(files)
+/// Prints the entries of a directory, and the lines that can't be read.
+pub fn show<R: Host + Wait + Print>(rt: &R, client: &FtpStream, path: &str) -> FtpResult<()> {
+    let listing = client.list_entries(rt, Some(path))?;
+    for entry in &listing.files {
+        let slash = if entry.is_directory() { "/" } else { "" };
+        println!(rt; "{}{slash} {}", entry.name(), entry.size())?;
+    }
+    for line in &listing.unread {
+        println!(rt; "can't be read: {line}")?;
+    }
+    Ok(())
 }
 
-/// Prints the name and the size of each file.
-pub fn run<R: Host + Wait + Print>(rt: &R, address: &str) -> FtpResult<()> {
-    for file in &listed(rt, address, "pub")? {
-        println!(rt; "{} {}", file.name(), file.size())?;
-    }
+/// Shows the entries of `pub`.
+pub fn run<R: Host + Wait + Print>(rt: &R, address: &str) -> Result<()> {
+    let client = logged_in(rt, address)?;
+    show(rt, &client, "pub")?;
+    client.quit(rt)?;
     Ok(())
 }

@@ -1,48 +1,47 @@
-//! Downloads a file.
+//! Downloads a file to one here, and shows how far it has come.
 #![tactic(auto)]
 
+use anyhow::{Context, Result};
 use own_server::OwnServer;
-use std::process::ExitCode;
+use std::fs;
+use std::io::Write;
 use std::sync::Wait;
-use suppaftp::{FileType, FtpError, FtpResult, FtpStream, Host, Progress};
+use suppaftp::{FileType, FtpResult, FtpStream, Host, Progress};
 
-/// How many bytes have come: what a bar on a screen would show.
+/// A line on standard error that says how much of a file has come.
 #[derive(Drop)]
-struct Seen(u64);
+struct Percent<'r, R> {
+    rt: &'r R,
+    size: usize,
+}
 
-impl Progress for Seen {
+impl<R: Eprint> Progress for Percent<'_, R> {
     fn went(&mut self, so_far: u64) {
-        self.0 = so_far;
+        let percent = u128::from(so_far) * 100 / self.size.max(1) as u128;
+        let _ = eprint!(self.rt; "\r{percent} % ");
     }
 }
 
-/// Logs in, and downloads a file.
-fn download<R: Host + Wait>(rt: &R, address: &str, name: &str) -> FtpResult<Vec<u8>> {
+/// Logs in, and downloads a file as it is; how many bytes came.
+fn download<R, W>(rt: &R, address: &str, name: &str, to: &mut W) -> FtpResult<u64>
+where
+    R: Host + Wait + Eprint,
+    W: Write,
+{
     let client = FtpStream::connect_to(rt, address)?;
     client.login(rt, "anonymous", "guest@example.org")?;
     client.transfer_type(rt, FileType::Binary)?;
-    let mut bytes = Vec::new(rt.alloc());
-    client.write_to(rt, name, &mut bytes, &mut Seen(0))?;
+    let size = client.size(rt, name)?;
+    let count = client.write_to(rt, name, to, &mut Percent { rt, size })?;
     client.quit(rt)?;
-    Ok(bytes)
+    Ok(count)
 }
 
-fn main(rt: HostRuntime) -> ExitCode {
-    let Ok(server) = OwnServer::start(&rt, 1) else {
-        return ExitCode::from(2);
-    };
-    match download(&rt, server.address(), "two.txt") {
-        Ok(bytes) => {
-            let _ = println!(rt; "two.txt: {} bytes", bytes.len());
-            ExitCode::SUCCESS
-        }
-        Err(FtpError::UnexpectedResponse(reply)) => {
-            let _ = eprintln!(rt; "refused: {reply}");
-            ExitCode::from(1)
-        }
-        Err(fault) => {
-            let _ = eprintln!(rt; "{fault}");
-            ExitCode::from(1)
-        }
-    }
+fn main(rt: HostRuntime) -> Result<()> {
+    let server = OwnServer::start(&rt, 1)?;
+    let mut file = fs::create(&rt, "big.bin").context("big.bin here")?;
+    let count = download(&rt, server.address(), "big.bin", &mut file)?;
+    println!(rt; "big.bin: {count} bytes")?;
+    fs::remove_file(&rt, "big.bin")?;
+    Ok(())
 }

@@ -163,6 +163,8 @@ where
     }
 
     /// Renames a file or directory: `RNFR` (350), then `RNTO` (250, 200). The new name is looked at only after 350.
+    /// One that is dropped after `RNFR` leaves some servers waiting for `RNTO`: they refuse later commands by 501 or 503,
+    /// until `custom_command` sends `RNTO` and the old name.
     ///
     /// # Errors
     /// Those of a command and its reply.

@@ -1,6 +1,7 @@
 //! A server of a program's own on loopback, so that the programs of README.md run as they stand.
 #![tactic(auto)]
 
+mod files;
 mod serving;
 
 use std::alloc::AllocError;

@@ -1,0 +1,33 @@
+//! A file of which a front is here is downloaded from there on.
+
+use crate::login::logged_in;
+use anyhow::{Context, Result};
+use std::fs;
+use std::fs::OpenOptions;
+use std::rt::Files;
+use std::sync::Wait;
+use suppaftp::{FileType, FtpStream, Host, NoProgress};
+
+/// Appends to a file here what the server's has beyond it; how many bytes came.
+pub fn resume<R: Host + Wait + Files>(rt: &R, client: &FtpStream, name: &str) -> Result<u64> {
+    let here = fs::metadata(rt, name).context(name)?.len();
+    let mut file = OpenOptions::new()
+        .append(true)
+        .open(rt, name)
+        .context(name)?;
+    client.transfer_type(rt, FileType::Binary)?;
+    client.resume_transfer(rt, here)?;
+    Ok(client.write_to(rt, name, &mut file, &mut NoProgress)?)
+}
+
+/// Writes the front of a file, downloads what follows it, and prints how much that was.
+pub fn run<R: Host + Wait + Files + Print>(rt: &R, address: &str) -> Result<()> {
+    fs::write(rt, "three.txt", b"one\r\nt")?;
+    let client = logged_in(rt, address)?;
+    let count = resume(rt, &client, "three.txt")?;
+    let whole = fs::metadata(rt, "three.txt")?.len();
+    println!(rt; "three.txt: {count} bytes came, {whole} are here")?;
+    client.quit(rt)?;
+    fs::remove_file(rt, "three.txt")?;
+    Ok(())
+}
