@@ -7,11 +7,6 @@ use std::sync::Wait;
 use std::{fs, mem};
 use suppaftp::{FileType, FtpStream, Host, NoProgress};
 
-/// Whether a server's name is one of a file here, and no way out of its folder.
-fn is_plain_name(name: &str) -> bool {
-    !matches!(name, "" | "." | "..") && !name.contains(['/', '\\', '\0', '\r', '\n'])
-}
-
 /// Downloads the files of a folder, and adds the folders in it to the next level.
 fn download_files<R>(rt: &R, client: &FtpStream, folder: &str, next: &mut Vec<String>) -> Result<()>
 where
@@ -20,9 +15,9 @@ where
     fs::create_dir_all(rt, folder).context("here")?;
     for entry in &client.list_entries(rt, Some(folder))?.files {
         let path = format!(in rt.alloc(); "{folder}/{}", entry.name())?;
-        if entry.is_directory() && is_plain_name(entry.name()) {
+        if entry.is_directory() && entry.is_plain_name() {
             next.push(path)?;
-        } else if entry.is_file() && is_plain_name(entry.name()) {
+        } else if entry.is_file() && entry.is_plain_name() {
             let mut file = fs::create(rt, &path).context("here")?;
             client.write_to(rt, &path, &mut file, &mut NoProgress)?;
         }

@@ -1,15 +1,13 @@
 //! A server is reached by its name, and no wait for it is longer than a limit.
 
 use anyhow::Result;
-use std::net::{SocketAddr, ToSocketAddrs};
 use std::sync::Wait;
 use std::time::Duration;
 use suppaftp::{FtpResult, FtpStream, Host};
 
 /// Connects to a server, as `ftp.example.org:21`, so that each wait for it ends within the limit.
 pub fn connect<R: Host + Wait>(rt: &R, address: &str, limit: Duration) -> FtpResult<FtpStream> {
-    let addresses: Vec<SocketAddr> = address.to_socket_addrs(rt)?.collect(rt.alloc())?;
-    FtpStream::connect_within(rt, &addresses, limit)
+    FtpStream::connect_to_within(rt, address, limit)
 }
 
 /// Downloads a file that stops in its midst, and then asks for the size of another: the session goes on.
