@@ -20,10 +20,10 @@ where
     Tr::Conn: Conn,
 {
     /// The files of this directory, or of the current one, as [`list_entries`](Self::list_entries) lists them: without the directory itself and its
-    /// parents, and without what only the server's system has, as a device.
+    /// parents, and without what in `MLSD` only the server's system has, as a device.
     ///
     /// # Errors
-    /// Those of `list_entries`; `BadResponse` where one of the lines can't be read.
+    /// Those of `list_entries`; `BadResponse` where one of the lines can't be read, as that of a device in `LIST`.
     pub fn list_files<R: Wait + Clock + AllocGlobal>(
         &self,
         rt: &R,

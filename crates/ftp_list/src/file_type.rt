@@ -1,7 +1,7 @@
 //! What kind of file a line names.
 //!
 //! A link holds its target, since no other kind has one. The target is a `Text`, which contracts
-//! see as its bytes; the form of MLSD names no target, and there it is empty.
+//! see as its bytes. Where a line names none it is empty, as in the type `link` of MLSD.
 ghost use Rattle.std.specs.Prelude.{◌≡◌};
 ghost use Rattle.std.specs.Option.{option_map};
 ghost use Rattle.ftp_list.specs.FileTypes.{is_directory, is_file, is_symlink, target_of};

@@ -3,7 +3,8 @@
 //!
 //! `File::from_line` reads a line of any form, and `ListParser` a line of one form. What a line
 //! says is defined in `specs/Listing`, `Facts` and `Lines`, in terms of the whole line; each parser
-//! returns that, or `OutOfMemory`. The time is linear in the line's length.
+//! returns that, or `OutOfMemory`. The time is linear in the line's length. `Listing` sorts the
+//! lines of a whole listing, as `specs/Sorts` and `Entries` define.
 #![tactic(auto)]
 
 mod class;

@@ -206,10 +206,10 @@ where
     Tr::Conn: TaskConn,
 {
     /// The files of this directory, or of the current one, as `list_entries` lists them: without the directory itself and its
-    /// parents, and without what only the server's system has, as a device.
+    /// parents, and without what in `MLSD` only the server's system has, as a device.
     ///
     /// # Errors
-    /// Those of `list_entries`; `BadResponse` where one of the lines can't be read.
+    /// Those of `list_entries`; `BadResponse` where one of the lines can't be read, as that of a device in `LIST`.
     pub fn list_files<'r, R: AllocGlobal>(
         &self,
         rt: &'r R,
