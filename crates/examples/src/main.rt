@@ -1,7 +1,8 @@
 //! First programs, each a module: `put`, `list`, `within`, `resume`, `polled`, `folder` and `secure`; `tour` shows a session.
 //!
 //! `examples NAME ADDRESS` runs one of them with the server at that address, as `192.0.2.7:21`, which has the files that it
-//! names; `examples all` runs all with a server of its own. What they write here is removed again.
+//! names; `examples all` runs all with a server of its own. What they write here is removed again. `examples drive`, with
+//! `USER:PASSWORD@HOST:PORT` for each server, makes the calls of docs/SERVERS.md.
 #![tactic(auto)]
 
 mod drive;
@@ -38,7 +39,7 @@ fn main(rt: HostRuntime) -> ExitCode {
         Ok(true) => ExitCode::SUCCESS,
         Ok(false) => {
             let _ = eprintln!(rt;
-                "usage: examples tour|put|list|within|resume|polled|folder|secure ADDRESS, or examples all"
+                "usage: examples tour|put|list|within|resume|polled|folder|secure ADDRESS\n       examples all, or examples drive USER:PASSWORD@ADDRESS .."
             );
             ExitCode::from(2)
         }
