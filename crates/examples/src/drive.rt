@@ -10,7 +10,8 @@ use std::sync::Wait;
 use suppaftp::{FtpError, FtpResult, Host, Mode};
 
 /// The modes, by their names.
-const MODES: [(&str, Mode); 3] = [
+const MODES: [(&str, Mode); 4] = [
+    ("automatic", Mode::Automatic),
     ("passive", Mode::Passive),
     ("extended", Mode::ExtendedPassive),
     ("active", Mode::Active),
