@@ -11,7 +11,20 @@ last_decides Registered = refl
 last_decides Over = refl
 
 pub returns-clause-asks : goal.returns-clause-asks
-returns-clause-asks g c =
-    (c.connect-connect.new.self, c.connect-connect.new.cx, c.connect-connect.result, c.or.result, c.connect-connect.ensures.asks, c.or-2.ensures,
-    (c.handshake-handshake.new.self, c.handshake-handshake.new.cx, c.handshake-handshake.result, c.peer-peer.result, c.handshake-handshake.ensures.asks, c.or.ensures,
-    (c.peer-peer.new.self, c.peer-peer.new.cx, c.peer-peer.result, Nothing, c.peer-peer.ensures.asks, last_decides c.peer-peer.result, (refl, refl, refl))))
+returns-clause-asks g c = (
+  c.connect-connect.new.self,
+  c.connect-connect.new.cx,
+  c.connect-connect.result,
+  c.or.result,
+  c.connect-connect.ensures.asks,
+  c.or-2.ensures,
+  (
+    c.handshake-handshake.new.self,
+    c.handshake-handshake.new.cx,
+    c.handshake-handshake.result,
+    c.peer-peer.result,
+    c.handshake-handshake.ensures.asks,
+    c.or.ensures,
+    (c.peer-peer.new.self, c.peer-peer.new.cx, c.peer-peer.result, Nothing, c.peer-peer.ensures.asks, last_decides c.peer-peer.result, (refl, refl, refl)),
+  ),
+)
