@@ -13,6 +13,7 @@ mod ending;
 mod from_contracts;
 mod machine;
 mod polls;
+mod readiness;
 mod resyncing;
 mod securing;
 mod transfers;
