@@ -368,7 +368,10 @@ where
         connect.limit = Some(limit);
         if limit.is_zero() {
             connect.addresses = Some(Vec::new(rt.alloc()));
-            connect.tried.fault = ConnectionError::TimedOut;
+            connect.tried = Tried {
+                count: 0,
+                fault: ConnectionError::TimedOut,
+            };
         }
         connect
     }
