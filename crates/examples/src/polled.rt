@@ -1,14 +1,12 @@
 //! The polled client: three files are downloaded at once, and a download is cancelled by a time limit.
 
-use anyhow::{Context, Result};
+use anyhow::Result;
 use futures::future::join3;
-use std::fs;
 use std::random::RandomSource;
-use std::rt::Files;
 use std::sync::Wait;
 use std::time::Duration;
-use suppaftp::polled_ftp::{AllowStdIo, AsyncFtpStream, TokioTransport};
-use suppaftp::{FileType, FtpResult, Host, NoProgress};
+use suppaftp::polled_ftp::{AsyncFtpStream, TokioTransport};
+use suppaftp::{FileType, FtpResult, Host};
 use tokio::runtime::LocalRuntime;
 
 /// A client that has logged in.
@@ -23,27 +21,22 @@ where
     Ok(client)
 }
 
-/// A new file here.
-fn here<R: Files>(rt: &R, name: &str) -> Result<AllowStdIo<R::File>> {
-    Ok(AllowStdIo(fs::create(rt, name).context("here")?))
-}
-
-/// Downloads three files at once, each to a file here of its name; how many bytes came of each.
-pub fn download<R>(rt: &R, address: &str, names: [&str; 3]) -> Result<(u64, u64, u64)>
+/// Downloads three files at once; how long each is.
+pub fn download<R>(rt: &R, address: &str, names: [&str; 3]) -> FtpResult<[usize; 3]>
 where
-    R: Host + Wait + RandomSource + Files,
+    R: Host + Wait + RandomSource,
 {
     let mut runtime = LocalRuntime::new(rt)?;
-    let one = logged_in(rt, &mut runtime, address)?;
-    let two = logged_in(rt, &mut runtime, address)?;
-    let three = logged_in(rt, &mut runtime, address)?;
+    let first = logged_in(rt, &mut runtime, address)?;
+    let second = logged_in(rt, &mut runtime, address)?;
+    let third = logged_in(rt, &mut runtime, address)?;
     let downloads = join3(
-        one.write_to(rt, names[0], here(rt, names[0])?, NoProgress),
-        two.write_to(rt, names[1], here(rt, names[1])?, NoProgress),
-        three.write_to(rt, names[2], here(rt, names[2])?, NoProgress),
+        first.retr_as_buffer(rt, names[0]),
+        second.retr_as_buffer(rt, names[1]),
+        third.retr_as_buffer(rt, names[2]),
     );
     let (one, two, three) = runtime.block_on(rt, downloads)?;
-    Ok((one?, two?, three?))
+    Ok([one?.len(), two?.len(), three?.len()])
 }
 
 /// Downloads a file, unless that takes longer than a limit; the length of another, whose call follows.
@@ -62,14 +55,10 @@ where
 /// Downloads three files at once, cancels a download, and prints what came of them.
 pub fn run<R>(rt: &R, address: &str) -> Result<()>
 where
-    R: Host + Wait + RandomSource + Files + Print,
+    R: Host + Wait + RandomSource + Print,
 {
-    let names = ["one.txt", "two.txt", "three.txt"];
-    let (one, two, three) = download(rt, address, names)?;
+    let [one, two, three] = download(rt, address, ["one.txt", "two.txt", "three.txt"])?;
     println!(rt; "at once: {one}, {two} and {three} bytes")?;
-    for name in names {
-        fs::remove_file(rt, name)?;
-    }
     let (is_here, size) = within(rt, address, "endless.bin", Duration::from_millis(300))?;
     println!(rt; "endless.bin is here: {is_here}; two.txt has {size} bytes")?;
     Ok(())
