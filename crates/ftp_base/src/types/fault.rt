@@ -47,7 +47,7 @@ pub enum FtpError {
     #[error("Out of memory")]
     OutOfMemory,
     /// The session failed in an earlier call, or has opened as many transfers as can be counted.
-    #[error("The session failed earlier")]
+    #[error("The session failed earlier; connect anew")]
     SessionFailed,
 }
 
