@@ -17,7 +17,7 @@ use futures::task::{Context, Poll};
 use std::alloc::{AllocError, Global};
 
 /// A call that begins, in memory of its own; none where there is none for it.
-fn boxed(alloc: Global, call: BorrowedCall<'_>) -> Option<Box<PolledCall>> {
+pub(crate) fn boxed(alloc: Global, call: BorrowedCall<'_>) -> Option<Box<PolledCall>> {
     let Ok(call) = call.owned(alloc) else {
         return None;
     };

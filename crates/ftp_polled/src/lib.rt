@@ -45,6 +45,7 @@ mod transfers;
 mod upload;
 mod waiting;
 mod welcome;
+mod whole_file;
 
 pub use adjusting::Adjust;
 pub use client::ImplAsyncFtpStream;

@@ -3,6 +3,7 @@
 ghost use Rattle.futures.specs.Poll.{OnPending};
 ghost use Rattle.futures.specs.Task.{IsArmed, Keeps};
 
+use crate::calling::boxed;
 use crate::client::Shared;
 use crate::hold::Hold;
 use crate::transfer_stream::TransferStream;
@@ -30,8 +31,8 @@ where
 {
     rt: &'r R,
     hold: Hold<Box<Session<Tr, K, E, B>>>,
-    // None where there was no memory for the call's texts.
-    call: Option<PolledCall>,
+    // In memory of its own, so that a future that moves moves little. None where there was no memory for it.
+    call: Option<Box<PolledCall>>,
     // The mark of the transfer, made at the first poll.
     mark: Option<NewMark>,
     replies: bool,
@@ -60,7 +61,7 @@ where
         Opening {
             rt,
             hold: Hold::on(shared),
-            call: call.owned(rt.alloc()).ok().map(PolledCall::new),
+            call: boxed(rt.alloc(), call),
             mark: None,
             replies,
             direction,

@@ -4,8 +4,8 @@ ghost use Rattle.futures.specs.Poll.{OnPending};
 ghost use Rattle.futures.specs.Task.{IsArmed, Keeps};
 
 use crate::client::ImplAsyncFtpStream;
-use crate::ending::Ending;
 use crate::opening::Opening;
+use crate::whole_file::{Progressing, WholeFile};
 use ftp_base::encoding::Encoding;
 use ftp_base::types::{ConnectionError, FtpError, FtpResult};
 use ftp_calls::call::BorrowedCall;
@@ -47,12 +47,9 @@ where
     Tr::Conn: TaskConn,
     F: RetrReader<Tr::Conn>,
 {
-    // Dropped first: the transfer has left its mark before the lock is let go.
-    transfer: Option<Transfer<Tr::Conn>>,
-    opening: Opening<'r, R, Tr, K, E, B>,
+    file: WholeFile<'r, R, Tr, K, E, B>,
     reader: F,
     read: Option<F::Out>,
-    ending: Option<Ending<'r, R, Tr, K, E, B>>,
 }
 
 impl<R, Tr: TaskTransport, K: Drop, E: Encoding, B: Drop, F> Drop
@@ -62,18 +59,10 @@ where
     F: RetrReader<Tr::Conn>,
 {
     fn drop(self) {
-        let Self {
-            transfer,
-            opening,
-            reader,
-            read,
-            ending,
-        } = self;
-        drop(transfer);
-        drop(opening);
+        let Self { file, reader, read } = self;
+        drop(file);
         drop(reader);
         drop(read);
-        drop(ending);
     }
 }
 
@@ -84,65 +73,25 @@ where
     B: PassiveStreamBuilder<Tr::Conn>,
     F: RetrReader<Tr::Conn>,
 {
-    /// Continues to open the transfer.
-    fn poll_opened(&mut self, cx: &mut Context<'_>) -> Poll<FtpResult<()>>
+    /// Continues to read the data, where the transfer is open. Once it is read the end of the transfer begins.
+    fn poll_read(&mut self, cx: &mut Context<'_>) -> Poll<FtpResult<()>>
         ensures registered { OnPending result (IsArmed cx.new) }
         ensures kept { Keeps cx.old cx.new }
     {
-        match self.opening.poll_opened(cx) {
-            Poll::Ready(Ok((_reply, transfer))) => {
-                drop(mem::replace(&mut self.transfer, Some(transfer)));
-                Poll::Ready(Ok(()))
-            }
-            Poll::Ready(Err(fault)) => {
-                self.opening.let_go();
-                Poll::Ready(Err(fault))
-            }
-            Poll::Pending => Poll::Pending,
-        }
-    }
-
-    /// Continues to read the data. Once it is read the end of the transfer begins.
-    fn poll_read(
-        &mut self,
-        mut transfer: Transfer<Tr::Conn>,
-        cx: &mut Context<'_>,
-    ) -> Poll<FtpResult<()>>
-        ensures registered { OnPending result (IsArmed cx.new) }
-        ensures kept { Keeps cx.old cx.new }
-    {
-        match self.reader.poll(&mut transfer, cx) {
+        let polled = match &mut self.file.at {
+            Progressing::Moving(transfer) => self.reader.poll(transfer, cx),
+            _ => return Poll::Ready(Ok(())),
+        };
+        match polled {
             Poll::Ready(Ok(read)) => {
                 drop(mem::replace(&mut self.read, Some(read)));
-                let hold = self.opening.take_hold();
-                let ending = Ending::of_file(self.opening.runtime(), hold, transfer);
-                drop(mem::replace(&mut self.ending, Some(ending)));
+                self.file.end();
                 Poll::Ready(Ok(()))
             }
             Poll::Ready(Err(fault)) => {
-                self.opening.note(&fault, self.reader.data_failed());
-                drop(transfer);
-                self.opening.let_go();
+                self.file.leave(&fault, self.reader.data_failed());
                 Poll::Ready(Err(fault))
             }
-            Poll::Pending => {
-                drop(mem::replace(&mut self.transfer, Some(transfer)));
-                Poll::Pending
-            }
-        }
-    }
-
-    /// Continues the end of the transfer.
-    fn poll_ended(&mut self, cx: &mut Context<'_>) -> Poll<FtpResult<F::Out>>
-        ensures registered { OnPending result (IsArmed cx.new) }
-        ensures kept { Keeps cx.old cx.new }
-    {
-        let Some(ending) = &mut self.ending else {
-            return Poll::Ready(Err(FtpError::ConnectionError(ConnectionError::AlreadyCompleted)));
-        };
-        match ending.poll_ended(cx) {
-            Poll::Ready(Ok(())) => Poll::Ready(read_value(self.read.take())),
-            Poll::Ready(Err(fault)) => Poll::Ready(Err(fault)),
             Poll::Pending => Poll::Pending,
         }
     }
@@ -166,21 +115,23 @@ where
     type Output = FtpResult<F::Out>;
 
     fn poll(&mut self, cx: &mut Context<'_>) -> Poll<FtpResult<F::Out>> {
-        if self.ending.is_none() && self.transfer.is_none() {
-            match self.poll_opened(cx) {
+        if self.file.is_unopened() {
+            match self.file.poll_opened(cx) {
                 Poll::Ready(Ok(())) => {}
                 Poll::Ready(Err(fault)) => return Poll::Ready(Err(fault)),
                 Poll::Pending => return Poll::Pending,
             }
         }
-        if let Some(transfer) = self.transfer.take() {
-            match self.poll_read(transfer, cx) {
-                Poll::Ready(Ok(())) => {}
-                Poll::Ready(Err(fault)) => return Poll::Ready(Err(fault)),
-                Poll::Pending => return Poll::Pending,
-            }
+        match self.poll_read(cx) {
+            Poll::Ready(Ok(())) => {}
+            Poll::Ready(Err(fault)) => return Poll::Ready(Err(fault)),
+            Poll::Pending => return Poll::Pending,
         }
-        self.poll_ended(cx)
+        match self.file.poll_ended(cx) {
+            Poll::Ready(Ok(())) => Poll::Ready(read_value(self.read.take())),
+            Poll::Ready(Err(fault)) => Poll::Ready(Err(fault)),
+            Poll::Pending => Poll::Pending,
+        }
     }
 }
 
@@ -200,12 +151,11 @@ where
         reader: F,
     ) -> Retrieve<'r, R, Tr, K, E, B, F> {
         let call = BorrowedCall::RetrAsStream(path);
+        let opening = Opening::new(rt, &self.session, call, false, Direction::Download);
         Retrieve {
-            transfer: None,
-            opening: Opening::new(rt, &self.session, call, false, Direction::Download),
+            file: WholeFile::new(opening),
             reader,
             read: None,
-            ending: None,
         }
     }
 }

@@ -17,8 +17,11 @@ use std::alloc::Global;
 use std::io::ErrorKind;
 use tokio::io::AsyncWrite;
 
-/// How many bytes of the data are read at once.
+/// How many bytes of the data are read at once at most.
 const BUFFER: usize = 65_536;
+
+/// How many bytes are read first; more, once a read has filled the buffer.
+const FIRST: usize = 8_192;
 
 /// What reads a download into a writer, and reports how far it has come. It makes of it how many bytes were written.
 pub struct Sink<W: AsyncWrite, P: Progress> {
@@ -83,6 +86,9 @@ impl<W: AsyncWrite, P: Progress> Sink<W, P> {
         let Some(buffer) = &mut self.buffer else {
             return Some(Poll::Ready(Err(FtpError::OutOfMemory)));
         };
+        if self.filled == buffer.len() {
+            grow(buffer);
+        }
         match transfer.poll_read_in(cx, buffer) {
             Ok(Poll::Ready(0)) => {
                 self.ended = true;
@@ -172,9 +178,17 @@ impl<W: AsyncWrite, P: Progress> Sink<W, P> {
     }
 }
 
-/// Room for what is read at once, where there is memory.
+/// Room for what is read first, where there is memory.
 fn buffer(alloc: Global) -> Option<Vec<u8>> {
-    vec![in alloc; 0u8; BUFFER].ok()
+    vec![in alloc; 0u8; FIRST].ok()
+}
+
+/// Makes a buffer twice as long, up to the most that is read at once. Where there is no memory it stays as it is.
+fn grow(buffer: &mut Vec<u8>) {
+    let length = buffer.len();
+    if length < BUFFER {
+        let _ = buffer.resize((length * 2).min(BUFFER), 0);
+    }
 }
 
 impl<C: PollConn<()> + TaskConn + Drop, W: AsyncWrite, P: Progress> RetrReader<C> for Sink<W, P> {

@@ -4,17 +4,16 @@ ghost use Rattle.futures.specs.Poll.{OnPending};
 ghost use Rattle.futures.specs.Task.{IsArmed, Keeps};
 
 use crate::client::ImplAsyncFtpStream;
-use crate::ending::Ending;
 use crate::opening::Opening;
+use crate::whole_file::{Progressing, WholeFile};
 use ftp_base::encoding::Encoding;
-use ftp_base::types::{ConnectionError, FtpError, FtpResult};
+use ftp_base::types::FtpResult;
 use ftp_calls::call::BorrowedCall;
 use ftp_copying::Copying;
-use ftp_transfer::{Direction, NoProgress, Progress, Transfer};
+use ftp_transfer::{Direction, NoProgress, Progress};
 use ftp_transport::{PassiveStreamBuilder, PollConn, PollTransport, TaskConn, TaskTransport};
 use futures::Future;
 use futures::task::{Context, Poll};
-use std::mem;
 use tokio::io::AsyncRead;
 
 /// A source is uploaded: the command, the data, and the last reply, in one hold of the lock. It returns the number of
@@ -35,11 +34,8 @@ pub struct Upload<
 where
     Tr::Conn: TaskConn,
 {
-    // Dropped first: the transfer has left its mark before the lock is let go.
-    transfer: Option<Transfer<Tr::Conn>>,
-    opening: Opening<'r, R, Tr, K, E, B>,
+    file: WholeFile<'r, R, Tr, K, E, B>,
     copying: Copying<S, P>,
-    ending: Option<Ending<'r, R, Tr, K, E, B>>,
 }
 
 impl<R, Tr: TaskTransport, K: Drop, E: Encoding, B: Drop, S: AsyncRead, P: Progress> Drop
@@ -48,16 +44,9 @@ where
     Tr::Conn: TaskConn,
 {
     fn drop(self) {
-        let Self {
-            transfer,
-            opening,
-            copying,
-            ending,
-        } = self;
-        drop(transfer);
-        drop(opening);
+        let Self { file, copying } = self;
+        drop(file);
         drop(copying);
-        drop(ending);
     }
 }
 
@@ -76,75 +65,49 @@ where
     Tr::Conn: PollConn<()> + TaskConn,
     B: PassiveStreamBuilder<Tr::Conn>,
 {
-    /// Continues to open the transfer.
+    /// Continues to open the transfer; once it is open the copy begins.
     fn poll_opened(&mut self, cx: &mut Context<'_>) -> Poll<FtpResult<()>>
         ensures registered { OnPending result (IsArmed cx.new) }
         ensures kept { Keeps cx.old cx.new }
     {
-        match self.opening.poll_opened(cx) {
-            Poll::Ready(Ok((_reply, transfer))) => Poll::Ready(self.begin(transfer)),
-            Poll::Ready(Err(fault)) => {
-                self.opening.let_go();
-                Poll::Ready(Err(fault))
-            }
+        match self.file.poll_opened(cx) {
+            Poll::Ready(Ok(())) => Poll::Ready(self.begin()),
+            Poll::Ready(Err(fault)) => Poll::Ready(Err(fault)),
             Poll::Pending => Poll::Pending,
         }
     }
 
     /// The transfer is open: the copy begins.
-    fn begin(&mut self, transfer: Transfer<Tr::Conn>) -> FtpResult<()> {
-        let alloc = self.opening.runtime().alloc();
-        match self.copying.begin(alloc, self.opening.sends_text()) {
-            Ok(()) => {
-                drop(mem::replace(&mut self.transfer, Some(transfer)));
-                Ok(())
-            }
-            Err(fault) => {
-                self.opening.abandon(transfer);
-                Err(fault)
-            }
+    fn begin(&mut self) -> FtpResult<()> {
+        let opening = &self.file.opening;
+        let begun = self
+            .copying
+            .begin(opening.runtime().alloc(), opening.sends_text());
+        if begun.is_err() {
+            self.file.abandon();
         }
+        begun
     }
 
-    /// Continues to copy the source. Once it has ended the end of the transfer begins.
-    fn poll_copied(
-        &mut self,
-        mut transfer: Transfer<Tr::Conn>,
-        cx: &mut Context<'_>,
-    ) -> Poll<FtpResult<()>>
+    /// Continues to copy the source, where the transfer is open. Once it has ended the end of the transfer begins.
+    fn poll_copied(&mut self, cx: &mut Context<'_>) -> Poll<FtpResult<()>>
         ensures registered { OnPending result (IsArmed cx.new) }
         ensures kept { Keeps cx.old cx.new }
     {
-        match self.copying.poll_copy(&mut transfer, cx) {
+        let polled = match &mut self.file.at {
+            Progressing::Moving(transfer) => self.copying.poll_copy(transfer, cx),
+            _ => return Poll::Ready(Ok(())),
+        };
+        match polled {
             Poll::Ready(Ok(())) => {
-                let hold = self.opening.take_hold();
-                let ending = Ending::of_file(self.opening.runtime(), hold, transfer);
-                drop(mem::replace(&mut self.ending, Some(ending)));
+                self.file.end();
                 Poll::Ready(Ok(()))
             }
             Poll::Ready(Err(fault)) => {
-                self.opening.note(&fault, self.copying.data_failed());
-                self.opening.abandon(transfer);
+                self.file.opening.note(&fault, self.copying.data_failed());
+                self.file.abandon();
                 Poll::Ready(Err(fault))
             }
-            Poll::Pending => {
-                drop(mem::replace(&mut self.transfer, Some(transfer)));
-                Poll::Pending
-            }
-        }
-    }
-
-    /// Continues the end of the transfer.
-    fn poll_ended(&mut self, cx: &mut Context<'_>) -> Poll<FtpResult<u64>>
-        ensures registered { OnPending result (IsArmed cx.new) }
-        ensures kept { Keeps cx.old cx.new }
-    {
-        let Some(ending) = &mut self.ending else {
-            return Poll::Ready(Err(FtpError::ConnectionError(ConnectionError::AlreadyCompleted)));
-        };
-        match ending.poll_ended(cx) {
-            Poll::Ready(Ok(())) => Poll::Ready(Ok(self.copying.count())),
-            Poll::Ready(Err(fault)) => Poll::Ready(Err(fault)),
             Poll::Pending => Poll::Pending,
         }
     }
@@ -160,21 +123,23 @@ where
     type Output = FtpResult<u64>;
 
     fn poll(&mut self, cx: &mut Context<'_>) -> Poll<FtpResult<u64>> {
-        if self.ending.is_none() && self.transfer.is_none() {
+        if self.file.is_unopened() {
             match self.poll_opened(cx) {
                 Poll::Ready(Ok(())) => {}
                 Poll::Ready(Err(fault)) => return Poll::Ready(Err(fault)),
                 Poll::Pending => return Poll::Pending,
             }
         }
-        if let Some(transfer) = self.transfer.take() {
-            match self.poll_copied(transfer, cx) {
-                Poll::Ready(Ok(())) => {}
-                Poll::Ready(Err(fault)) => return Poll::Ready(Err(fault)),
-                Poll::Pending => return Poll::Pending,
-            }
+        match self.poll_copied(cx) {
+            Poll::Ready(Ok(())) => {}
+            Poll::Ready(Err(fault)) => return Poll::Ready(Err(fault)),
+            Poll::Pending => return Poll::Pending,
         }
-        self.poll_ended(cx)
+        match self.file.poll_ended(cx) {
+            Poll::Ready(Ok(())) => Poll::Ready(Ok(self.copying.count())),
+            Poll::Ready(Err(fault)) => Poll::Ready(Err(fault)),
+            Poll::Pending => Poll::Pending,
+        }
     }
 }
 
@@ -190,11 +155,10 @@ where
         source: S,
         progress: P,
     ) -> Upload<'r, R, Tr, K, E, B, S, P> {
+        let opening = Opening::new(rt, &self.session, call, false, Direction::Upload);
         Upload {
-            transfer: None,
-            opening: Opening::new(rt, &self.session, call, false, Direction::Upload),
+            file: WholeFile::new(opening),
             copying: Copying::new(source, progress),
-            ending: None,
         }
     }
 
