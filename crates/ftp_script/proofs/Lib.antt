@@ -3,3 +3,4 @@ pub mod Making
 pub mod Reading
 pub mod Showing
 pub mod Splitting
+pub mod Numbering

@@ -8,4 +8,4 @@ returns g c =
     let old = g.W.Write.contents c.args.writer.now in
     let new = g.W.Write.contents c.write_all_retrying.new.writer in
     let front : WritesFront c.in-Ok.script old new = inr (c.in-Ok-transcript_of.transcript.items, c.in-Ok-transcript_of.ensures, rw c.as_slice.ensures.value at c.in-Err-write_all_retrying.ensures.err) in
-    subst (λ r. Ran r (Err (Io c.in-Err-write_all_retrying.error)) old new) (sym c.in-Ok.ensures) front
+    subst (λ r. Ran c.args.text.now r (Err (Io c.in-Err-write_all_retrying.error)) old new) (sym c.in-Ok.ensures) front
