@@ -1,0 +1,9 @@
+pub mod PathFacts
+pub mod EntryFacts
+pub mod WayFacts
+pub mod BoolFacts
+pub mod RemoveFacts
+pub mod MakeFacts
+pub mod LikeFacts
+pub mod JustFacts
+pub mod SettledFacts

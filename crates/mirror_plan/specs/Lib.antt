@@ -1,0 +1,4 @@
+pub mod Paths
+pub mod Listing
+pub mod Plan
+pub mod Carried
