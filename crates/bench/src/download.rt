@@ -43,3 +43,16 @@ where
     }
     Ok(total / SMALL)
 }
+
+/// Downloads so many small files whole, one after another; how many came, by their bytes.
+pub fn small_buffers<R>(rt: &R, client: &FtpStream, files: u64) -> FtpResult<u64>
+where
+    R: Net<Listener = TcpListener, Stream = TcpStream> + Clock + Wait + AllocGlobal,
+{
+    let mut total = 0u64;
+    for _ in 0..files {
+        let bytes = client.retr_as_buffer(rt, "1024")?;
+        total = total.saturating_add(bytes.len() as u64);
+    }
+    Ok(total / SMALL)
+}

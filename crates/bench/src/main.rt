@@ -3,8 +3,9 @@
 //! The words are pairs, a kind of run and its amount, as `download 256 list 20000`; those of the blocking client are run in
 //! turn, in one session, and then those of the polled one. `download` and `buffer` fetch so many MiB, by a stream and whole;
 //! `upload` sends so many MiB, `put` so many from a reader, `text` so many as lines of text, which `convert` converts in memory
-//! alone; `list` lists so many lines, and `files` fetches so many files of 1 KiB. `polled-download`, `polled-put` and
-//! `polled-files` are the polled client's. Standard output gets what was carried, standard error the times.
+//! alone; `list` lists so many lines, and `files` fetches so many files of 1 KiB, `buffer-files` whole. `polled-download`,
+//! `polled-put`, `polled-files` and `polled-saved` are the polled client's. Standard output gets what was
+//! carried, standard error the times.
 //!
 //! `parse TIMES FORM` reads lines of listings from standard input. Without words nothing is measured, and the status is 1.
 #![tactic(auto)]

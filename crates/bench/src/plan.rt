@@ -29,8 +29,12 @@ pub enum Kind {
     PolledDownload,
     /// A file, sent from a reader by the polled client.
     PolledPut,
-    /// Small files, one after another, by the polled client.
+    /// Small files, one after another, each fetched whole.
+    BufferFiles,
+    /// Small files, one after another, each fetched whole by the polled client.
     PolledFiles,
+    /// Small files, one after another, each saved to a writer by the polled client.
+    PolledSaved,
 }
 
 impl Kind {
@@ -47,7 +51,9 @@ impl Kind {
             "put" => Some(Kind::Put),
             "polled-download" => Some(Kind::PolledDownload),
             "polled-put" => Some(Kind::PolledPut),
+            "buffer-files" => Some(Kind::BufferFiles),
             "polled-files" => Some(Kind::PolledFiles),
+            "polled-saved" => Some(Kind::PolledSaved),
             _ => None,
         }
     }
@@ -65,7 +71,9 @@ impl Kind {
             Kind::Put => "put",
             Kind::PolledDownload => "polled-download",
             Kind::PolledPut => "polled-put",
+            Kind::BufferFiles => "buffer-files",
             Kind::PolledFiles => "polled-files",
+            Kind::PolledSaved => "polled-saved",
         }
     }
 
@@ -73,7 +81,7 @@ impl Kind {
     pub fn is_polled(self) -> bool {
         matches!(
             self,
-            Kind::PolledDownload | Kind::PolledPut | Kind::PolledFiles
+            Kind::PolledDownload | Kind::PolledPut | Kind::PolledFiles | Kind::PolledSaved
         )
     }
 
@@ -83,7 +91,8 @@ impl Kind {
             Kind::Download | Kind::Buffer | Kind::Upload | Kind::Text | Kind::Convert => "bytes",
             Kind::Put | Kind::PolledDownload | Kind::PolledPut => "bytes",
             Kind::List => "lines",
-            Kind::Files | Kind::PolledFiles => "files",
+            Kind::Files | Kind::BufferFiles => "files",
+            Kind::PolledFiles | Kind::PolledSaved => "files",
         }
     }
 }

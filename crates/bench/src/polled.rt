@@ -83,6 +83,7 @@ where
             runtime.block_on(rt, client.put_file(rt, "binary", source))?
         }
         Kind::PolledFiles => small_files(rt, runtime, client, run.amount),
+        Kind::PolledSaved => saved_files(rt, runtime, client, run.amount),
         _ => Ok(0),
     }
 }
@@ -101,6 +102,25 @@ where
     for _ in 0..files {
         let bytes = runtime.block_on(rt, client.retr_as_buffer(rt, "1024"))??;
         total = total.saturating_add(bytes.len() as u64);
+    }
+    Ok(total / SMALL)
+}
+
+/// Saves so many small files, one after another; how many came, by their bytes.
+fn saved_files<R>(
+    rt: &R,
+    runtime: &mut LocalRuntime,
+    client: &AsyncFtpStream,
+    files: u64,
+) -> FtpResult<u64>
+where
+    R: Host + Wait + RandomSource,
+{
+    let mut total = 0u64;
+    for _ in 0..files {
+        let writer = AllowStdIo(io::sink());
+        let count = runtime.block_on(rt, client.write_to(rt, "1024", writer, NoProgress))??;
+        total = total.saturating_add(count);
     }
     Ok(total / SMALL)
 }

@@ -70,6 +70,8 @@ where
         Kind::List => listing::listed(rt, client, run.amount),
         Kind::Files => download::small_files(rt, client, run.amount, buffer),
         Kind::Put => upload::from_reader(rt, client, run.amount, lines),
-        Kind::PolledDownload | Kind::PolledPut | Kind::PolledFiles => Ok(0),
+        Kind::BufferFiles => download::small_buffers(rt, client, run.amount),
+        Kind::PolledDownload | Kind::PolledPut => Ok(0),
+        Kind::PolledFiles | Kind::PolledSaved => Ok(0),
     }
 }
