@@ -12,7 +12,7 @@ use Rattle.mirror_plan.specs.declared.action.Reason.{Reason}
 use Rattle.mirror_plan.specs.declared.action.Reason.TheVariants.{KindDiffers, NotAFileOrFolder}
 use Rattle.mirror_plan.specs.Paths.{Path}
 use Rattle.mirror_plan.specs.Listing.{Listing, IsTree, standing, node_at, is_same, is_folder}
-use Rattle.mirror_plan.specs.Plan.{nearest, is_free, is_gone, is_stale, is_later, is_made, is_removed, removals, makings, actions_of, unlike, not_removed, reason_left, left_for, left_among, unmade, unremoved, undone_of}
+use Rattle.mirror_plan.specs.Plan.{nearest, is_free, is_stale, is_later, is_made, is_removed, removals, makings, actions_of, unlike, not_removed, reason_left, left_for, left_among, unmade, unremoved, undone_of}
 use Rattle.mirror_plan.specs.Carried.{all_carried_out, CanAllBeCarriedOut, is_alike, is_undone, IsLeft, IsAlike}
 use Rattle.mirror_plan.proofs.PathFacts.{path_cases}
 use Rattle.mirror_plan.proofs.EntryFacts.{is_same-refl, node_at-head, node_at-tail, standing_is, standing_root}

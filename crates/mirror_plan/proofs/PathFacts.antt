@@ -1,5 +1,5 @@
 -- Laws of paths: the last name, the folder, the order.
-use Rattle.std.proofs.Common.{◌≡◌, ℕ, zero, suc, drop, drop-cons, add-one, ◌≤◌, ◌+◌, ◌-◌, ◌<◌, Bool, true, false, ◌&&◌, IsTrue, nat_lt, bytes_eq, List, [], ◌∷◌, ◌++◌, length, take, get_or, refl, sym, ap, ◌∙◌, inl, inr, ◌⊎◌, arith}
+use Rattle.std.proofs.Common.{◌≡◌, ℕ, zero, suc, drop, ◌≤◌, ◌-◌, ◌<◌, Bool, true, false, ◌&&◌, IsTrue, nat_lt, bytes_eq, List, [], ◌∷◌, ◌++◌, length, take, get_or, refl, sym, ap, ◌∙◌, inl, inr, ◌⊎◌, arith}
 use Rattle.std.proofs.lemmas.Bool.{false≢true}
 use Rattle.std.specs.List.{list_all, starts_with}
 use Rattle.std.proofs.lemmas.Bool.Decides.{nat_tests}

@@ -1,9 +1,8 @@
-use Rattle.std.proofs.Common.{◌≡◌, ◌<◌, ◌==◌, Bool, true, false, not, IsTrue, IsSome, is_some, List, length, Some, None, Result, Err, subst, ap, sym, refl, ◌∙◌, arith}
+use Rattle.std.proofs.Common.{◌≡◌, ◌<◌, true, IsTrue, is_some, List, length, Some, None, Result, Err, ap, sym, refl, ◌∙◌, arith}
 use Rattle.std.proofs.lemmas.Bool.{false≢true}
 use Rattle.std.proofs.lemmas.Result.{err_from_is_err_and}
 use Rattle.mirror_plan.specs.declared.tree.InsertError.{InsertError}
 use Rattle.mirror_plan.specs.declared.tree.InsertError.TheVariants.{OutOfMemory, AlreadyThere}
-use Rattle.std.proofs.lemmas.Grind.{common_steps}
 use Rattle.mirror_plan.specs.declared.node.Node.{Node}
 use Rattle.mirror_plan.specs.Paths.{Path, parent_of}
 use Rattle.mirror_plan.specs.Listing.{Listing, IsGap, standing, is_folder, updated}
