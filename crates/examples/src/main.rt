@@ -32,7 +32,7 @@ const NAMES: [&str; 8] = [
 ];
 
 /// How many clients the programs are.
-const CLIENTS: usize = 11;
+const CLIENTS: usize = 12;
 
 fn main(rt: HostRuntime) -> ExitCode {
     match run_words(&rt) {

@@ -42,6 +42,5 @@ fn main(rt: HostRuntime) -> Result<()> {
     let mut file = fs::create(&rt, "big.bin").context("big.bin here")?;
     let count = download(&rt, server.address(), "big.bin", &mut file)?;
     println!(rt; "big.bin: {count} bytes")?;
-    fs::remove_file(&rt, "big.bin")?;
     Ok(())
 }
