@@ -2,7 +2,6 @@
 
 use crate::problem::Problem;
 use crate::site::{Client, Site};
-use ftp_base::types::FtpError;
 use ftp_transfer::NoProgress;
 use mirror_plan::RelativePath;
 use std::alloc::Global;
@@ -70,8 +69,8 @@ where
     let length = length_of(rt, part);
     let offset = if length <= size { length } else { 0 };
     match fetch(rt, client, source, part, offset) {
-        Err(Problem::Server(FtpError::UnexpectedResponse(reply))) if offset > 0 => {
-            drop(reply);
+        Err(problem) if offset > 0 && problem.is_refused() => {
+            drop(problem);
             fetch(rt, client, source, part, 0)
         }
         other => other,

@@ -6,12 +6,13 @@ use crate::words::Task;
 use anyhow::{Context, Result};
 use mirror_plan::Tree;
 use std::fs::Metadata;
+use std::io::ErrorKind;
 use std::rt::Files;
 use std::sync::Wait;
 use std::time::SystemTime;
 use std::{fs, io};
 
-/// What stands below the folder here. A part of a file isn't told of.
+/// What stands below the folder here, which a dry run may lack. A part of a file isn't told of.
 ///
 /// # Errors
 /// A folder can't be read, or out of memory.
@@ -19,7 +20,13 @@ pub fn local_tree<R>(rt: &R, task: &Task, report: &Report) -> Result<Tree>
 where
     R: Files + Wait + AllocGlobal + Clone + Drop + Eprint,
 {
-    let root = list_folder(rt, task.local.as_str()).context(format_args!("{}", task.local))?;
+    let root = match list_folder(rt, task.local.as_str()) {
+        Err(error) if task.dry_run && error.kind() == ErrorKind::NotFound => Listed {
+            is_whole: true,
+            entries: Vec::new(rt.alloc()),
+        },
+        listed => listed.context(format_args!("{}", task.local))?,
+    };
     let mut growing = Growing::root(rt, task, report, root)?;
     for _ in 1..DEPTH {
         let level = growing.next_level(rt.alloc());

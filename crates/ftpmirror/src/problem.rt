@@ -1,6 +1,6 @@
 //! Why something is left undone.
 
-use ftp_base::types::FtpError;
+use ftp_base::types::{FtpError, Response};
 use std::alloc::AllocError;
 use std::io;
 use thiserror::Error;
@@ -37,11 +37,26 @@ impl From<AllocError> for Problem {
     }
 }
 
+/// Whether a reply says that the command may go well another time, as where a data connection was lost (4yz; RFC 959,
+/// section 4.2.1).
+fn is_transient(reply: &Response) -> bool {
+    matches!(reply.body.as_slice(), [b'4', ..])
+}
+
 impl Problem {
+    /// Whether the server has refused, for good.
+    pub fn is_refused(&self) -> bool {
+        match self {
+            Problem::Server(FtpError::UnexpectedResponse(reply)) => !is_transient(reply),
+            _ => false,
+        }
+    }
+
     /// Whether another try on another connection may go better: what the server refuses, and what happens here, stays.
     pub fn may_pass(&self) -> bool {
         match self {
-            Problem::Server(FtpError::UnexpectedResponse(_) | FtpError::OutOfMemory) => false,
+            Problem::Server(FtpError::UnexpectedResponse(reply)) => is_transient(reply),
+            Problem::Server(FtpError::OutOfMemory) => false,
             Problem::Server(_) => true,
             Problem::Here(_) | Problem::Size { came: _, listed: _ } => false,
         }
