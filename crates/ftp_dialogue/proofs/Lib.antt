@@ -1,10 +1,12 @@
 pub mod AbortingLemmas
+pub mod Backed
 pub mod OpeningData
 pub mod CarryingLemmas
 pub mod CatchingUpLemmas
 pub mod DataCommands
 pub mod DrainingLemmas
 pub mod DueReplies
+pub mod EveryStage
 pub mod NetEvents
 pub mod Faults
 pub mod FallingBack

@@ -9,6 +9,7 @@ pub mod Laws
 pub mod Lenient
 pub mod Link
 pub mod Play
+pub mod PollCauses
 pub mod Promises
 pub mod Reading
 pub mod Resuming

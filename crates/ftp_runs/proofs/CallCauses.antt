@@ -17,9 +17,9 @@ use Rattle.ftp_dialogue.specs.Sound.{cannot_open}
 use Rattle.ftp_dialogue.specs.CatchingUp.{PlaysInStep}
 use Rattle.ftp_dialogue.specs.State.{SessionValue}
 use Rattle.ftp_dialogue.specs.declared.state.State.{State}
-use Rattle.ftp_session.specs.Calls.{sends}
-use Rattle.ftp_session.proofs.Backed.{Backed, io, took_no_more}
-use Rattle.ftp_session.proofs.EveryStage.{Spent, begun_backed}
+use Rattle.ftp_dialogue.specs.PollCauses.{sends}
+use Rattle.ftp_dialogue.proofs.Backed.{Backed, io, took_no_more}
+use Rattle.ftp_dialogue.proofs.EveryStage.{Spent, begun_backed}
 use Rattle.ftp_session.proofs.Grounds.{Grounds, Why, alone_grounds, plays_grounds, step_grounds}
 use Rattle.ftp_session.proofs.Reasons.{spent_no_io}
 use Rattle.ftp_runs.specs.Counting.{CountsEach, HasCause}

@@ -34,8 +34,8 @@ use Rattle.ftp_dialogue.specs.declared.state.Owed.TheVariants as owed
 use Rattle.ftp_dialogue.proofs.CarryingLemmas.{carried_apart, carried_made}
 use Rattle.ftp_dialogue.proofs.DrainingLemmas.{local_undue, made_plays}
 use Rattle.ftp_dialogue.proofs.Sorts.{stage_no_local}
-use Rattle.ftp_session.specs.Calls.{sends}
-use Rattle.ftp_session.specs.PollCauses.{CausesAnswer, CausesPoll, TakesNoMore, kept_error}
+use Rattle.ftp_dialogue.specs.PollCauses.{sends}
+use Rattle.ftp_dialogue.specs.PollCauses.{CausesAnswer, CausesPoll, TakesNoMore, kept_error}
 use Rattle.ftp_session.specs.Polled.{PollsNext as PollsSession, PollsNextIf as PollsSessionIf, ThenStarts, ThenStartsIf}
 use Rattle.ftp_session.proofs.Calm.{Happens, given_before}
 use Rattle.ftp_session.proofs.PollGrounds.{caused_in_step, fault_caused, light_caused, next_caused}

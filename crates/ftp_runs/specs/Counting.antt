@@ -19,8 +19,8 @@ use Rattle.ftp_dialogue.specs.Promises.{FailsWith}
 use Rattle.ftp_dialogue.specs.Sound.{cannot_open}
 use Rattle.ftp_dialogue.specs.State.{SessionValue}
 use Rattle.ftp_dialogue.specs.declared.stage.Stage.{Stage}
-use Rattle.ftp_session.specs.Calls.{sends}
-use Rattle.ftp_session.specs.PollCauses.{CausesAnswer, CausesKept, kept_error}
+use Rattle.ftp_dialogue.specs.PollCauses.{sends}
+use Rattle.ftp_dialogue.specs.PollCauses.{CausesAnswer, CausesKept, kept_error}
 use Rattle.ftp_runs.specs.Following.{Grows, given_answer}
 use Rattle.ftp_runs.specs.Runs.{PlaysAmong}
 

@@ -38,7 +38,7 @@ use Rattle.ftp_dialogue.specs.Counted.{CountsFailure, CountsFaults}
 use Rattle.ftp_dialogue.specs.State.{SessionValue}
 use Rattle.ftp_session.specs.Counting.{CountsConnecting, CountsConnectingUnder, CountsInGreeting, EndsRefused, FailsAtFirst, IsRefusedAtLast}
 use Rattle.ftp_session.specs.Implicit.{FailsToConnectUnder, FailsUnder}
-use Rattle.ftp_session.proofs.Backed.{clash}
+use Rattle.ftp_dialogue.proofs.Backed.{clash}
 use Rattle.ftp_session.proofs.Reasons.{alone_counts}
 
 outcomes-append : (a b : List Asked) → outcomes_in (a ++ b) ≡ outcomes_in a ++ outcomes_in b

@@ -21,12 +21,12 @@ use Rattle.ftp_dialogue.specs.Link.{Link}
 use Rattle.ftp_dialogue.specs.Sound.{cannot_open}
 use Rattle.ftp_dialogue.specs.State.{SessionValue}
 use Rattle.ftp_transfer.specs.Copying.{Copies, GaveUp, Hinders, Wrote, WroteFront}
-use Rattle.ftp_session.specs.Calls.{sends}
+use Rattle.ftp_dialogue.specs.PollCauses.{sends}
 use Rattle.ftp_session.specs.Counting.{CopyStops, CountsDownload, CountsSaving, CountsUpload, CountsWhole, GivesOn, OnOpened, SaveStops}
 use Rattle.ftp_session.specs.Files.{EndsDownload, EndsUpload, FinishesHeld, OpensAndReceives, OpensAndStores, Puts, PutsFrom, Receives, ReceivesFrom, ReceivesHeld, ReceivesSeen, Retrieves, Stores, StoresHeld, WritesTo, failed_if, lacks_memory, unless_failed}
 use Rattle.ftp_session.specs.Handed.{OpensOne, as_seen, with_data}
 use Rattle.ftp_transfer.specs.Saving.{EndsEarly, SaveFails, Saves, StopsAt}
-use Rattle.ftp_session.proofs.Backed.{IsGrave}
+use Rattle.ftp_dialogue.proofs.Backed.{IsGrave}
 use Rattle.ftp_session.proofs.Calm.{Calm, calm_on, calm_seen}
 use Rattle.ftp_session.proofs.Grounds.{none_then}
 use Rattle.ftp_session.proofs.Reasons.{finish_reasons, opened_reasons, opening_results}

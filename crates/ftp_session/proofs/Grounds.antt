@@ -30,9 +30,9 @@ use Rattle.ftp_dialogue.specs.Within.{MayHear}
 use Rattle.ftp_dialogue.specs.declared.model.NetOutcome.{NetOutcome}
 use Rattle.ftp_dialogue.specs.declared.state.State.{State}
 use Rattle.ftp_dialogue.proofs.NetEvents.{letting_beside}
-use Rattle.ftp_session.proofs.Backed.{Any, Backed, Fits, IsGrave, Since, Tells, fits_map, io, of_bytes, place_backed, reason_of}
+use Rattle.ftp_dialogue.proofs.Backed.{Any, Backed, Fits, IsGrave, Since, Tells, fits_map, io, of_bytes, place_backed, reason_of}
 use Rattle.ftp_session.proofs.Calm.{Calm, Happens, asked_calm, calm_beside, calm_on, calm_same, given_after, given_before, happens_on, lets_happen}
-use Rattle.ftp_session.proofs.EveryStage.{IsNothing, Never, drain_backed}
+use Rattle.ftp_dialogue.proofs.EveryStage.{IsNothing, Never, drain_backed}
 
 -- Reasons
 

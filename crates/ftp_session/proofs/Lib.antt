@@ -1,8 +1,6 @@
-pub mod Backed
 pub mod Calm
 pub mod Commands
 pub mod Connecting
-pub mod EveryStage
 pub mod FilesCounts
 pub mod FilesLemmas
 pub mod Grounds

@@ -28,7 +28,7 @@ use Rattle.ftp_dialogue.specs.declared.state.State.{State}
 use Rattle.ftp_dialogue.proofs.Sorts.{opens_drains_none}
 use Rattle.ftp_session.specs.Fetched.{FetchesRow, IsFetched}
 use Rattle.ftp_session.specs.Handed.{HandsConnection, OpensRow, PlaysSeen, as_seen, opens}
-use Rattle.ftp_session.proofs.Backed.{Tells, clash, gathering_backed, line_backed, negotiating_backed, opening_backed}
+use Rattle.ftp_dialogue.proofs.Backed.{Tells, clash, gathering_backed, line_backed, negotiating_backed, opening_backed}
 use Rattle.ftp_session.proofs.Commands.{refusal_is}
 use Rattle.ftp_session.proofs.Grounds.{Results, step_results}
 

@@ -39,10 +39,10 @@ use Rattle.ftp_dialogue.specs.declared.stage.Stage.{Stage}
 use Rattle.ftp_dialogue.specs.declared.stage.Stage.TheVariants.{At, Saying, Hearing, Transferring}
 use Rattle.ftp_dialogue.specs.declared.stage.Transferring.TheVariants as fetch
 use Rattle.ftp_dialogue.specs.declared.state.State.{State}
-use Rattle.ftp_session.specs.PollCauses.{CausesAnswer, CausesPoll, TakesNoMore, error_of, kept_by, kept_error}
+use Rattle.ftp_dialogue.specs.PollCauses.{CausesAnswer, CausesPoll, TakesNoMore, error_of, kept_by, kept_error}
 use Rattle.ftp_session.specs.Polled.{CatchesUpThenPolls, CountsPoll, DrainsFirst, EndsOrPolls, LooksFirst, PollsCall, PollsInStep, PollsInStepIf, PollsNext, PollsNextIf, PollsUnless, ThenPolls, ThenStarts, ThenStartsIf, UnderWay, IfFails}
-use Rattle.ftp_session.proofs.Backed.{Any, Backed, IsGrave, Or, Since, Tells, io, place_backed, reason_of, took_no_more}
-use Rattle.ftp_session.proofs.EveryStage.{Carries, IsNothing, Never, Spent, drain_backed, entered_backed, plain_carries}
+use Rattle.ftp_dialogue.proofs.Backed.{Any, Backed, IsGrave, Or, Since, Tells, io, place_backed, reason_of, took_no_more}
+use Rattle.ftp_dialogue.proofs.EveryStage.{Carries, IsNothing, Never, Spent, drain_backed, entered_backed, plain_carries}
 use Rattle.ftp_session.proofs.Calm.{Calm, calm_on, calm_same, given_after, calm_seen}
 use Rattle.ftp_session.proofs.Grounds.{Grounds, Results, Why, after_calm, asked_caught, caught_up, drain_goes, drained_calm, drained_fault, either_as, ends_same, grounds_of, made_results, met_only, none_then, of_whole, refused_results, told_as, alone_results, given, never_to, read_faults, up_caught}
 use Rattle.ftp_session.proofs.Reasons.{spent_no_io, to_counts}

@@ -25,10 +25,10 @@ use Rattle.ftp_dialogue.specs.State.{SessionValue}
 use Rattle.ftp_dialogue.specs.declared.state.Owed.{Owed}
 use Rattle.ftp_dialogue.specs.declared.state.Owed.TheVariants as owed
 use Rattle.ftp_dialogue.specs.declared.state.State.{State}
-use Rattle.ftp_session.specs.Calls.{sends}
+use Rattle.ftp_dialogue.specs.PollCauses.{sends}
 use Rattle.ftp_session.specs.Handed.{BringsToEnd, BringsToEndIf, FailsFrom, Opens, OpensReplied, PlaysSeen, Settles, SettlesIf, SettlesUnless, Strands, as_seen, is_out, left_if, with_data}
-use Rattle.ftp_session.proofs.Backed.{Any, IsGrave, io}
-use Rattle.ftp_session.proofs.EveryStage.{Never, Spent, drain_backed, opens_backed, plain_backed}
+use Rattle.ftp_dialogue.proofs.Backed.{Any, IsGrave, io}
+use Rattle.ftp_dialogue.proofs.EveryStage.{Never, Spent, drain_backed, opens_backed, plain_backed}
 use Rattle.ftp_session.proofs.Calm.{calm_left, calm_same, calm_seen}
 use Rattle.ftp_session.proofs.Grounds.{Grounds, Met, Results, Why, after_calm, alone_results, either_as, ends_same, grounds_of, met_only, step_results, told_as}
 

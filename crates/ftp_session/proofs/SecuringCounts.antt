@@ -29,10 +29,10 @@ use Rattle.ftp_session.specs.Counting.{CountsClearing, CountsSecuring, FailsInCh
 use Rattle.ftp_session.specs.Handed.{as_seen}
 use Rattle.ftp_session.specs.Securing.{AfterChange, Changes, ChangesThen, Clears, CommandThen, OnAccepted, Protects, ProtectsData, Secures, SecuresFrom, ClearsFrom, failed_if, secured, unchanged}
 use Rattle.ftp_session.specs.Trees.{drain_tree, reply_tree}
-use Rattle.ftp_session.proofs.Backed.{Any, Backed, Tells, clash}
+use Rattle.ftp_dialogue.proofs.Backed.{Any, Backed, Tells, clash}
 use Rattle.ftp_session.proofs.Calm.{calm_seen}
 use Rattle.ftp_session.proofs.Commands.{drain_is}
-use Rattle.ftp_session.proofs.EveryStage.{IsNothing, Never, drain_backed, plain_backed}
+use Rattle.ftp_dialogue.proofs.EveryStage.{IsNothing, Never, drain_backed, plain_backed}
 use Rattle.ftp_session.proofs.Grounds.{Results, after_calm, after_drain, in_step, made_results, never_to, of_whole, told_as}
 use Rattle.ftp_session.proofs.Reasons.{said_failed, to_counts}
 use Rattle.ftp_session.proofs.Trees.{reply_is}

@@ -1,5 +1,5 @@
 -- The calls of a session: each is its dialogue.
-use Rattle.std.specs.Prelude.{◌≡◌, ◌⊎◌, ℕ, Bool, true, false, Result, Ok, Err, map, string_bytes}
+use Rattle.std.specs.Prelude.{◌≡◌, ◌⊎◌, ℕ, Result, Ok, Err, map, string_bytes}
 use Rattle.std.specs.declared.vec.Vec.{Vec}
 use Rattle.std.specs.declared.string.String.{String}
 use Rattle.std.specs.declared.alloc.Global.{Global}
@@ -15,8 +15,7 @@ use Rattle.ftp_dialogue.specs.NetEvents.{Net}
 use Rattle.ftp_calls.specs.declared.call.Answer.{Answer}
 use Rattle.ftp_calls.specs.declared.call.Answer.TheVariants.{Unit as Done, Reply, Fault}
 use Rattle.ftp_calls.specs.declared.call.Answer.TheVariants as answers
-use Rattle.ftp_calls.specs.declared.call.Call.{Call}
-use Rattle.ftp_calls.specs.declared.call.Call.TheVariants.{AppendFile, Greet, PutFile}
+use Rattle.ftp_calls.specs.declared.call.Call.TheVariants.{Greet}
 use Rattle.ftp_dialogue.specs.Coding.{Coding}
 use Rattle.ftp_dialogue.specs.State.{Begins, SessionValue}
 use Rattle.ftp_dialogue.specs.Promises.{PlaysAlone}
@@ -61,12 +60,6 @@ bytes_answer (Err fault) = Fault fault
 abbrev pub lines_answer : Result (Vec (String Global) Global) FtpError → Answer
 lines_answer (Ok lines) = answers.Lines (map string_bytes lines.items)
 lines_answer (Err fault) = Fault fault
-
--- a call that uploads bytes of its own
-abbrev pub sends : Call → Bool
-sends (PutFile path bytes) = true
-sends (AppendFile path bytes) = true
-sends other = false
 
 -- a session that reads replies by this rule begins and makes the greeting's dialogue; its channel is sound, so that it has met the end of the input only
 -- where the connection has

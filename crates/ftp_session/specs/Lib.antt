@@ -8,7 +8,6 @@ pub mod Handed
 pub mod Implicit
 pub mod Kept
 pub mod Locked
-pub mod PollCauses
 pub mod Polled
 pub mod Rows
 pub mod Securing

@@ -6,7 +6,7 @@ ghost use Rattle.ftp_session.specs.Handed.{LooksIf, as_seen, watches};
 ghost use Rattle.ftp_dialogue.specs.Link.{asking, built_by, polling};
 ghost use Rattle.ftp_dialogue.specs.Promises.{FailsWith};
 ghost use Rattle.ftp_calls.specs.Kinds.{IsPlain};
-ghost use Rattle.ftp_session.specs.PollCauses.{CausesPoll, kept_error};
+ghost use Rattle.ftp_dialogue.specs.PollCauses.{CausesPoll, kept_error};
 ghost use Rattle.ftp_session.specs.Polled.{CountsPoll, PollsCall};
 ghost use Rattle.ftp_runs.specs.Counting.{CountsEvents};
 ghost use Rattle.ftp_runs.specs.Scripted.{IsScripted, StopsAtFeed};

@@ -11,7 +11,8 @@ ghost use Rattle.ftp_calls.specs.declared.exchange.Fetch.TheVariants.{Listed, Wh
 ghost use Rattle.ftp_dialogue.specs.Coding.{chosen};
 ghost use Rattle.ftp_dialogue.specs.Counted.{CountsFaultsBeside};
 ghost use Rattle.ftp_dialogue.specs.Link.{asking, blocking, built_by};
-ghost use Rattle.ftp_session.specs.Calls.{bytes_answer, lines_answer, sends};
+ghost use Rattle.ftp_session.specs.Calls.{bytes_answer, lines_answer};
+ghost use Rattle.ftp_dialogue.specs.PollCauses.{sends};
 ghost use Rattle.ftp_session.specs.Fetched.{FetchesRow, IsFetched};
 ghost use Rattle.ftp_calls.specs.Kinds.{IsOpening};
 ghost use Rattle.ftp_session.specs.Handed.{PlaysSeen};

@@ -6,7 +6,7 @@
 ghost use Rattle.std.specs.Prelude.{◌≡◌, IfErr, IfOk, false, is_none, not};
 ghost use Rattle.ftp_calls.specs.declared.call.Answer.TheVariants.{Fault};
 ghost use Rattle.ftp_calls.specs.Exchanges.{call_of};
-ghost use Rattle.ftp_session.specs.Calls.{sends};
+ghost use Rattle.ftp_dialogue.specs.PollCauses.{sends};
 ghost use Rattle.ftp_dialogue.specs.Coding.{chosen};
 ghost use Rattle.ftp_dialogue.specs.Counted.{CountsFaultsBeside};
 ghost use Rattle.ftp_session.specs.Handed.{HandsConnection, OpensAs, OpensEither, Opens, OpensReplied, with_reply, without_reply};

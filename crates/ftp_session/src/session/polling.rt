@@ -13,7 +13,7 @@ ghost use Rattle.ftp_dialogue.specs.Steps.Moving.{withheld};
 ghost use Rattle.ftp_dialogue.specs.Steps.Polls.{StageIn, StartsTo};
 ghost use Rattle.ftp_calls.specs.Exchanges.{is_local};
 ghost use Rattle.ftp_calls.specs.Kinds.{IsPlain};
-ghost use Rattle.ftp_session.specs.PollCauses.{CausesPoll, kept_error};
+ghost use Rattle.ftp_dialogue.specs.PollCauses.{CausesPoll, kept_error};
 ghost use Rattle.ftp_session.specs.Polled.{CountsPoll, Drops, LooksFirst, PollsCall, PollsInStep, PollsNext};
 ghost use Rattle.ftp_session.specs.Kept.{Keeps};
 

@@ -52,9 +52,9 @@ use Rattle.ftp_dialogue.specs.declared.stage.Stage.TheVariants.{At, Saying, Hear
 use Rattle.ftp_dialogue.specs.declared.stage.Transferring.{Transferring as Fetched}
 use Rattle.ftp_dialogue.specs.declared.stage.Transferring.TheVariants as fetch
 use Rattle.ftp_dialogue.specs.declared.state.State.{State}
-use Rattle.ftp_session.specs.Calls.{sends}
-use Rattle.ftp_session.specs.PollCauses.{error_of, kept_by, kept_error}
-use Rattle.ftp_session.proofs.Backed.{Any, Backed, Fits, Or, Tells, accepting_backed, built_backed, carried_backed, clash, close_given, closing_fetch_backed, cond_backed, connecting_backed, ending_fetch_backed, gathering_backed, io, line_backed, negotiating_backed, of_bytes, opening_backed, opening_data_backed, peer_backed, port_or_passive, restart_backed, securing_backed, sending_backed, storing_backed, told_backed, took_no_more}
+use Rattle.ftp_dialogue.specs.PollCauses.{sends}
+use Rattle.ftp_dialogue.specs.PollCauses.{error_of, kept_by, kept_error}
+use Rattle.ftp_dialogue.proofs.Backed.{Any, Backed, Fits, Or, Tells, accepting_backed, built_backed, carried_backed, clash, close_given, closing_fetch_backed, cond_backed, connecting_backed, ending_fetch_backed, gathering_backed, io, line_backed, negotiating_backed, of_bytes, opening_backed, opening_data_backed, peer_backed, port_or_passive, restart_backed, securing_backed, sending_backed, storing_backed, told_backed, took_no_more}
 
 -- Endings
 

@@ -1,6 +1,6 @@
 -- Why a poll returns an error of a connection, or `SessionFailed`: also one that an earlier poll of the call met on its data
 -- connection, and that the call kept for its answer.
-use Rattle.std.specs.Prelude.{◌≡◌, ◌⊎◌, true, Option, Some, None}
+use Rattle.std.specs.Prelude.{◌≡◌, ◌⊎◌, Bool, true, false, Option, Some, None}
 use Rattle.std.specs.declared.io.ErrorKind.{ErrorKind}
 use Rattle.std.specs.declared.io.ErrorKind.TheVariants.{WriteZero}
 use Rattle.futures.specs.declared.task.Poll.{Poll}
@@ -12,6 +12,7 @@ use Rattle.ftp_calls.specs.Exchanges.{Movements}
 use Rattle.ftp_calls.specs.declared.call.Answer.{Answer}
 use Rattle.ftp_calls.specs.declared.call.Answer.TheVariants.{Fault}
 use Rattle.ftp_calls.specs.declared.call.Call.{Call}
+use Rattle.ftp_calls.specs.declared.call.Call.TheVariants.{PutFile, AppendFile}
 use Rattle.ftp_calls.specs.declared.exchange.Ending.{Ending}
 use Rattle.ftp_calls.specs.declared.exchange.Ending.TheVariants.{Finishes}
 use Rattle.ftp_calls.specs.declared.exchange.Turn.{Turn}
@@ -57,6 +58,12 @@ kept_error (Transferring fetching) = kept_of fetching
 kept_error other = None
 
 -- Why an error is returned
+
+-- a call that uploads bytes of its own
+abbrev pub sends : Call → Bool
+sends (PutFile path bytes) = true
+sends (AppendFile path bytes) = true
+sends other = false
 
 -- a call moves a whole file, and its data connection takes no more bytes
 abbrev pub TakesNoMore : Call → ErrorKind → Type 0
