@@ -1,7 +1,10 @@
-//! How calls begin.
+//! How calls begin, and what a poll of one makes.
+//!
+//! All calls are one type of future: a function that is generic over futures is dear to prove at each type that it is called
+//! at.
 
 use crate::counter::Counter;
-use crate::gains::{Gains, Stream};
+use crate::gains::{Gains, Outcome, Stream};
 use crate::script::Asked;
 use crate::slow::SlowTransport;
 use ftp_base::encoding::Utf8Encoding;
@@ -10,6 +13,8 @@ use ftp_polled::{
     Abort, Adjust, Dialogue, Finish, ImplAsyncFtpStream, Lock, OpenTransfer, Retrieve, Upload,
 };
 use ftp_session::session::{Call, NoStreamBuilder, NoTlsConnector, Setting};
+use futures::Future;
+use futures::task::{Context, Poll};
 use rows_plays::optional;
 use rows_text::RowError;
 
@@ -56,6 +61,37 @@ pub enum State<'r, R> {
     Set(Adjust<'r, R, SlowTransport, NoTlsConnector, Utf8Encoding, NoStreamBuilder>),
     /// The lock is waited for.
     Lend(Lock<SlowTransport, NoTlsConnector, Utf8Encoding, NoStreamBuilder>),
+}
+
+/// What a poll of a call makes, as an outcome of this kind.
+macro_rules! polled {
+    ($call:ident, $cx:ident, $kind:ident) => {
+        match $call.poll($cx) {
+            Poll::Ready(outcome) => Poll::Ready(Outcome::$kind(outcome)),
+            Poll::Pending => Poll::Pending,
+        }
+    };
+}
+
+impl<R: AllocGlobal> Future for State<'_, R> {
+    type Output = Outcome;
+
+    fn poll(&mut self, cx: &mut Context<'_>) -> Poll<Outcome> {
+        match self {
+            State::Unit(call) => polled!(call, cx, Unit),
+            State::Reply(call) => polled!(call, cx, Reply),
+            State::Size(call) => polled!(call, cx, Size),
+            State::Bytes(call) => polled!(call, cx, Bytes),
+            State::Lines(call) => polled!(call, cx, Lines),
+            State::Open(call) => polled!(call, cx, Opened),
+            State::Upload(call) => polled!(call, cx, Count),
+            State::Download(call) => polled!(call, cx, Count),
+            State::Finish(call) => polled!(call, cx, Unit),
+            State::Abort(call) => polled!(call, cx, Unit),
+            State::Set(call) => polled!(call, cx, Unit),
+            State::Lend(call) => polled!(call, cx, Lent),
+        }
+    }
 }
 
 /// The state of a call.

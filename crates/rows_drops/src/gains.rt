@@ -37,86 +37,75 @@ impl Gains {
     }
 }
 
-/// What a call returns.
-pub trait Gives: Drop + Sized {
-    /// Its answer; what the row keeps is put by.
+/// What a call returned.
+#[derive(Drop)]
+pub enum Outcome {
+    /// Nothing.
+    Unit(FtpResult<()>),
+    /// Its reply.
+    Reply(FtpResult<Response>),
+    /// The size of a file.
+    Size(FtpResult<usize>),
+    /// How many bytes were moved.
+    Count(FtpResult<u64>),
+    /// A whole file.
+    Bytes(FtpResult<Vec<u8>>),
+    /// A listing.
+    Lines(FtpResult<Vec<String>>),
+    /// A transfer.
+    Opened(FtpResult<Stream>),
+    /// The control connection.
+    Lent(FtpResult<Control>),
+}
+
+impl Outcome {
+    /// The answer; what the row keeps is put by.
     ///
     /// # Errors
     /// `OutOfMemory`.
-    fn answer(outcome: FtpResult<Self>, gains: &mut Gains) -> Result<Answer, AllocError>;
-}
+    fn answer(self, gains: &mut Gains) -> Result<Answer, AllocError> {
+        Ok(match self {
+            Outcome::Unit(outcome) => unit(outcome),
+            Outcome::Reply(outcome) => reply(outcome),
+            Outcome::Size(outcome) => size(outcome),
+            Outcome::Count(outcome) => count(outcome),
+            Outcome::Bytes(outcome) => bytes(outcome),
+            Outcome::Lines(outcome) => lines(outcome),
+            Outcome::Opened(outcome) => opened(outcome, gains)?,
+            Outcome::Lent(outcome) => lent(outcome, gains),
+        })
+    }
 
-impl Gives for () {
-    fn answer(outcome: FtpResult<()>, _gains: &mut Gains) -> Result<Answer, AllocError> {
-        Ok(unit(outcome))
+    /// The answer as text; what the row keeps is put by.
+    ///
+    /// # Errors
+    /// `OutOfMemory`.
+    pub fn shown(self, alloc: Global, gains: &mut Gains) -> Result<String, AllocError> {
+        let answer = self.answer(gains)?;
+        let text = text_of(alloc, &answer);
+        drop(answer);
+        text
     }
 }
 
-impl Gives for Response {
-    fn answer(outcome: FtpResult<Response>, _gains: &mut Gains) -> Result<Answer, AllocError> {
-        Ok(reply(outcome))
-    }
-}
-
-impl Gives for usize {
-    fn answer(outcome: FtpResult<usize>, _gains: &mut Gains) -> Result<Answer, AllocError> {
-        Ok(size(outcome))
-    }
-}
-
-impl Gives for u64 {
-    fn answer(outcome: FtpResult<u64>, _gains: &mut Gains) -> Result<Answer, AllocError> {
-        Ok(count(outcome))
-    }
-}
-
-impl Gives for Vec<u8> {
-    fn answer(outcome: FtpResult<Vec<u8>>, _gains: &mut Gains) -> Result<Answer, AllocError> {
-        Ok(bytes(outcome))
-    }
-}
-
-impl Gives for Vec<String> {
-    fn answer(outcome: FtpResult<Vec<String>>, _gains: &mut Gains) -> Result<Answer, AllocError> {
-        Ok(lines(outcome))
-    }
-}
-
-impl Gives for Stream {
-    fn answer(outcome: FtpResult<Stream>, gains: &mut Gains) -> Result<Answer, AllocError> {
-        match outcome {
-            Ok(stream) => {
-                gains.transfers.push_back(stream)?;
-                Ok(Answer::Opened)
-            }
-            Err(fault) => Ok(Answer::Fault(fault)),
+/// The answer of a call that opens a transfer, which is put by.
+fn opened(outcome: FtpResult<Stream>, gains: &mut Gains) -> Result<Answer, AllocError> {
+    match outcome {
+        Ok(stream) => {
+            gains.transfers.push_back(stream)?;
+            Ok(Answer::Opened)
         }
+        Err(fault) => Ok(Answer::Fault(fault)),
     }
 }
 
-impl Gives for Control {
-    fn answer(outcome: FtpResult<Control>, gains: &mut Gains) -> Result<Answer, AllocError> {
-        match outcome {
-            Ok(control) => {
-                drop(gains.lent.replace(control));
-                Ok(Answer::Unit)
-            }
-            Err(fault) => Ok(Answer::Fault(fault)),
+/// The answer of a call that lends the control connection, which is put by.
+fn lent(outcome: FtpResult<Control>, gains: &mut Gains) -> Answer {
+    match outcome {
+        Ok(control) => {
+            drop(gains.lent.replace(control));
+            Answer::Unit
         }
+        Err(fault) => Answer::Fault(fault),
     }
-}
-
-/// An outcome as text; what the row keeps is put by.
-///
-/// # Errors
-/// `OutOfMemory`.
-pub fn shown<T: Gives>(
-    alloc: Global,
-    outcome: FtpResult<T>,
-    gains: &mut Gains,
-) -> Result<String, AllocError> {
-    let answer = T::answer(outcome, gains)?;
-    let text = text_of(alloc, &answer);
-    drop(answer);
-    text
 }

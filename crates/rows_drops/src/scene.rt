@@ -1,8 +1,8 @@
 //! A play of a row: a client over slow connections, and what the row holds of it.
 
-use crate::advance::{How, advance, go_on};
+use crate::advance::{How, go_on};
 use crate::begin::{Client, State, begin, transfer};
-use crate::gains::{Control, Gains};
+use crate::gains::{Control, Gains, Outcome};
 use crate::script::{Asked, Script};
 use crate::slow::{SlowConn, SlowTransport};
 use crate::transcript::{Part, Transcript};
@@ -130,7 +130,8 @@ impl Scene {
         state: &mut State<'_, R>,
         how: How,
     ) -> Result<Option<String>, RowError> {
-        go_on(rt, state, how, &mut self.gains)
+        let outcome = go_on(rt, state, how)?;
+        self.shown(rt.alloc(), outcome)
     }
 
     /// The transfer is left, and its receipt is kept.
@@ -150,10 +151,22 @@ impl Scene {
             return Err(RowError::NotUnderstood);
         };
         let mut state = self.client.settle(rt, &mut receipt);
-        let answer = advance(rt, &mut state, how, &mut self.gains);
+        let outcome = go_on(rt, &mut state, how);
         drop(state);
         drop(self.gains.receipt.replace(receipt));
-        answer
+        self.shown(rt.alloc(), outcome?.map(Outcome::Unit))
+    }
+
+    /// What a call returned, as text; what the row keeps is put by.
+    fn shown(
+        &mut self,
+        alloc: Global,
+        outcome: Option<Outcome>,
+    ) -> Result<Option<String>, RowError> {
+        match outcome {
+            Some(outcome) => Ok(Some(outcome.shown(alloc, &mut self.gains)?)),
+            None => Ok(None),
+        }
     }
 
     /// Adds an answer to the transcript, and before it the lines that were sent; or that there is none.
