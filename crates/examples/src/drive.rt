@@ -31,6 +31,14 @@ const OFFSET: u64 = 1000;
 /// The limit of each wait, in seconds.
 const LIMIT: u64 = 10;
 
+/// Where calls are made: the server's address, the client, and its mode.
+#[derive(Clone, Copy)]
+struct Place<'p> {
+    address: &'p str,
+    client: &'p str,
+    mode: &'p str,
+}
+
 /// Makes the calls at each server, `USER:PASSWORD@HOST:PORT`, and prints a line for each.
 pub fn run<R>(rt: &R, servers: &[String]) -> Result<()>
 where
@@ -42,8 +50,13 @@ where
         };
         let login = login.split_once(':').unwrap_or((login, ""));
         for (name, mode) in MODES {
-            blocking::run(rt, address, login, name, mode)?;
-            polled::run(rt, address, login, name, mode)?;
+            let place = |client| Place {
+                address,
+                client,
+                mode: name,
+            };
+            blocking::run(rt, place("blocking"), login, mode)?;
+            polled::run(rt, place("polled"), login, mode)?;
         }
     }
     Ok(())
@@ -51,13 +64,17 @@ where
 
 /// Prints what a call resulted in: `ok` with a number, or the number of the error in docs/REFUSALS.md, with the reply's code or
 /// the error's text.
-fn show<R: Print>(rt: &R, call: &str, outcome: FtpResult<u64>) -> Result<()> {
+fn show<R: Print>(rt: &R, place: Place<'_>, step: &str, outcome: FtpResult<u64>) -> Result<()> {
+    let Place {
+        address,
+        client,
+        mode,
+    } = place;
+    print!(rt; "{address} {client} {mode} {step} ")?;
     match outcome {
-        Ok(count) => println!(rt; "{call} ok {count}")?,
-        Err(FtpError::UnexpectedResponse(reply)) => {
-            println!(rt; "{call} E10 {}", reply.status.code())?
-        }
-        Err(error) => println!(rt; "{call} E{} {error}", error.number())?,
+        Ok(count) => println!(rt; "ok {count}")?,
+        Err(FtpError::UnexpectedResponse(reply)) => println!(rt; "E10 {}", reply.status.code())?,
+        Err(error) => println!(rt; "E{} {error}", error.number())?,
     }
     Ok(())
 }

@@ -19,6 +19,7 @@ mod within;
 use anyhow::Result;
 use own_server::OwnServer;
 use std::env;
+use std::fs::File;
 use std::process::ExitCode;
 use std::random::RandomSource;
 use std::rt::{Env, Files};
@@ -32,7 +33,7 @@ const NAMES: [&str; 8] = [
 ];
 
 /// How many clients the programs are.
-const CLIENTS: usize = 12;
+const CLIENTS: usize = 11;
 
 fn main(rt: HostRuntime) -> ExitCode {
     match run_words(&rt) {
@@ -53,7 +54,7 @@ fn main(rt: HostRuntime) -> ExitCode {
 /// Runs what the program's words say; whether they say anything.
 fn run_words<R>(rt: &R) -> Result<bool>
 where
-    R: Host + Wait + Threads + RandomSource + Env + Files + Print,
+    R: Host + Wait + Threads + RandomSource + Env + Files<File = File> + Print,
 {
     let words: Vec<String> = env::args(rt)?.skip(1).collect(rt.alloc())?;
     match words.as_slice() {
@@ -70,7 +71,7 @@ where
 /// Runs a program with the server at an address; whether there is such a program.
 fn run<R>(rt: &R, name: &str, address: &str) -> Result<bool>
 where
-    R: Host + Wait + RandomSource + Files + Print,
+    R: Host + Wait + RandomSource + Files<File = File> + Print,
 {
     match name {
         "tour" => tour::run(rt, address)?,
@@ -89,7 +90,7 @@ where
 /// Runs each program with a server of its own.
 fn run_all<R>(rt: &R) -> Result<bool>
 where
-    R: Host + Wait + Threads + RandomSource + Files + Print,
+    R: Host + Wait + Threads + RandomSource + Files<File = File> + Print,
 {
     let server = OwnServer::start(rt, CLIENTS)?;
     for name in NAMES {

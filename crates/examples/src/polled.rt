@@ -1,8 +1,9 @@
 //! The polled client: three files are downloaded at once, and a download is cancelled by a time limit.
 
 use anyhow::{Context, Result};
-use futures::future::join3;
+use futures::future::join_all;
 use std::fs;
+use std::fs::File;
 use std::random::RandomSource;
 use std::rt::Files;
 use std::sync::Wait;
@@ -23,35 +24,48 @@ where
     Ok(client)
 }
 
-/// Downloads three files at once; how long each is.
-pub fn download<R>(rt: &R, address: &str, names: [&str; 3]) -> FtpResult<[usize; 3]>
+/// Downloads these files at once, a client each, to files here of their names; what came of each.
+fn at_once<R>(
+    rt: &R,
+    runtime: &mut LocalRuntime,
+    clients: &[AsyncFtpStream],
+    names: &[&str],
+) -> Result<Vec<FtpResult<u64>>>
 where
-    R: Host + Wait + RandomSource,
+    R: Host + Wait + RandomSource + Files<File = File>,
+{
+    let mut downloads = Vec::new(rt.alloc());
+    for (client, name) in clients.iter().zip(names) {
+        let file = AllowStdIo(fs::create(rt, name).context("here")?);
+        downloads.push(client.write_to(rt, name, file, NoProgress))?;
+    }
+    Ok(runtime.block_on(rt, join_all(rt.alloc(), downloads)?)??)
+}
+
+/// Downloads these files at once to files here of their names; how many bytes came.
+pub fn download<R>(rt: &R, address: &str, names: &[&str]) -> Result<u64>
+where
+    R: Host + Wait + RandomSource + Files<File = File>,
 {
     let mut runtime = LocalRuntime::new(rt)?;
-    let first = logged_in(rt, &mut runtime, address)?;
-    let second = logged_in(rt, &mut runtime, address)?;
-    let third = logged_in(rt, &mut runtime, address)?;
-    let downloads = join3(
-        first.retr_as_buffer(rt, names[0]),
-        second.retr_as_buffer(rt, names[1]),
-        third.retr_as_buffer(rt, names[2]),
-    );
-    let (one, two, three) = runtime.block_on(rt, downloads)?;
-    Ok([one?.len(), two?.len(), three?.len()])
+    let mut clients = Vec::new(rt.alloc());
+    for _ in names {
+        clients.push(logged_in(rt, &mut runtime, address)?)?;
+    }
+    let mut count = 0u64;
+    for came in at_once(rt, &mut runtime, &clients, names)? {
+        count = count.saturating_add(came?);
+    }
+    Ok(count)
 }
 
-/// Downloads a file to one here of its name; how many bytes came.
-fn saved<R>(rt: &R, runtime: &mut LocalRuntime, client: &AsyncFtpStream, name: &str) -> Result<u64>
-where
-    R: Host + Wait + RandomSource + Files,
-{
-    let file = AllowStdIo(fs::create(rt, name).context("here")?);
-    Ok(runtime.block_on(rt, client.write_to(rt, name, file, NoProgress))??)
-}
-
-/// Downloads a file, unless that takes longer than a limit; the length of another, whose call follows.
-pub fn within<R>(rt: &R, address: &str, name: &str, limit: Duration) -> Result<(bool, usize)>
+/// Downloads a file, unless that takes longer than a limit: its length, or none; and the length of another, whose call follows.
+pub fn within<R>(
+    rt: &R,
+    address: &str,
+    name: &str,
+    limit: Duration,
+) -> Result<(Option<usize>, usize)>
 where
     R: Host + Wait + RandomSource,
 {
@@ -59,31 +73,28 @@ where
     let client = logged_in(rt, &mut runtime, address)?;
     let download = client.retr_as_buffer(rt, name);
     let download = runtime.handle().time().timeout(rt, limit, download)?;
-    let is_here = runtime.block_on(rt, download)?.is_ok();
-    Ok((is_here, runtime.block_on(rt, client.size(rt, "two.txt"))??))
+    let came = match runtime.block_on(rt, download)? {
+        Ok(bytes) => Some(bytes?.len()),
+        Err(_) => None,
+    };
+    Ok((came, runtime.block_on(rt, client.size(rt, "two.txt"))??))
 }
 
-/// Logs in, and downloads a file to one here; how many bytes came.
-fn save<R>(rt: &R, address: &str, name: &str) -> Result<u64>
-where
-    R: Host + Wait + RandomSource + Files,
-{
-    let mut runtime = LocalRuntime::new(rt)?;
-    let client = logged_in(rt, &mut runtime, address)?;
-    saved(rt, &mut runtime, &client, name)
-}
-
-/// Downloads three files at once, cancels a download, saves a file, and prints what came of them.
+/// Downloads three files at once, cancels a download, and prints what came of them.
 pub fn run<R>(rt: &R, address: &str) -> Result<()>
 where
-    R: Host + Wait + RandomSource + Files + Print,
+    R: Host + Wait + RandomSource + Files<File = File> + Print,
 {
-    let [one, two, three] = download(rt, address, ["one.txt", "two.txt", "three.txt"])?;
-    println!(rt; "at once: {one}, {two} and {three} bytes")?;
-    let (is_here, size) = within(rt, address, "endless.bin", Duration::from_millis(300))?;
-    println!(rt; "endless.bin is here: {is_here}; two.txt has {size} bytes")?;
-    let count = save(rt, address, "two.txt")?;
-    println!(rt; "two.txt: {count} bytes are here")?;
-    fs::remove_file(rt, "two.txt")?;
+    let names = ["one.txt", "two.txt", "three.txt"];
+    let count = download(rt, address, &names)?;
+    println!(rt; "at once: {count} bytes are here")?;
+    for name in names {
+        fs::remove_file(rt, name)?;
+    }
+    let (came, size) = within(rt, address, "endless.bin", Duration::from_millis(300))?;
+    println!(rt;
+        "endless.bin came: {}; two.txt has {size} bytes",
+        came.is_some()
+    )?;
     Ok(())
 }

@@ -9,14 +9,14 @@ use std::sync::Wait;
 use suppaftp::{FileType, FtpStream, Host, NoProgress};
 
 /// Appends to a file here what the server's has beyond it; how many bytes came.
-pub fn resume<R: Host + Wait + Files>(rt: &R, client: &FtpStream, name: &str) -> Result<u64> {
-    let here = fs::metadata(rt, name).context(name)?.len();
-    let mut file = OpenOptions::new()
-        .append(true)
-        .open(rt, name)
-        .context(name)?;
+pub fn resume<R>(rt: &R, client: &FtpStream, name: &str, here: &str) -> Result<u64>
+where
+    R: Host + Wait + Files,
+{
+    let length = fs::metadata(rt, here).context("here")?.len();
+    let mut file = OpenOptions::new().append(true).open(rt, here)?;
     client.transfer_type(rt, FileType::Binary)?;
-    client.resume_transfer(rt, here)?;
+    client.resume_transfer(rt, length)?;
     Ok(client.write_to(rt, name, &mut file, &mut NoProgress)?)
 }
 
@@ -24,7 +24,7 @@ pub fn resume<R: Host + Wait + Files>(rt: &R, client: &FtpStream, name: &str) ->
 pub fn run<R: Host + Wait + Files + Print>(rt: &R, address: &str) -> Result<()> {
     fs::write(rt, "three.txt", b"one\r\nt")?;
     let client = logged_in(rt, address)?;
-    let count = resume(rt, &client, "three.txt")?;
+    let count = resume(rt, &client, "three.txt", "three.txt")?;
     let whole = fs::metadata(rt, "three.txt")?.len();
     println!(rt; "three.txt: {count} bytes came, {whole} are here")?;
     client.quit(rt)?;

@@ -1,6 +1,6 @@
 //! The calls of the blocking client.
 
-use super::{LENGTH, LIMIT, OFFSET, STEPS, show};
+use super::{LENGTH, LIMIT, OFFSET, Place, STEPS, show};
 use anyhow::Result;
 use std::io::Read;
 use std::net::{SocketAddr, ToSocketAddrs};
@@ -9,22 +9,17 @@ use std::time::Duration;
 use suppaftp::{FileType, FtpResult, FtpStream, Host, Mode};
 
 /// Connects, and makes each call.
-pub fn run<R>(rt: &R, address: &str, login: (&str, &str), name: &str, mode: Mode) -> Result<()>
+pub fn run<R>(rt: &R, place: Place<'_>, login: (&str, &str), mode: Mode) -> Result<()>
 where
     R: Host + Wait + Print,
 {
-    let client = match connected(rt, address, login) {
+    let client = match connected(rt, place.address, login) {
         Ok(client) => client,
-        Err(error) => return show(
-            rt,
-            &format!(in rt.alloc(); "{address} blocking {name} login")?,
-            Err(error),
-        ),
+        Err(error) => return show(rt, place, "login", Err(error)),
     };
     client.set_mode(rt, mode);
     for step in STEPS {
-        let call = format!(in rt.alloc(); "{address} blocking {name} {step}")?;
-        show(rt, &call, made(rt, &client, step))?;
+        show(rt, place, step, made(rt, &client, step))?;
     }
     Ok(())
 }
@@ -44,30 +39,42 @@ where
 /// Makes a call; how many bytes or entries there were.
 fn made<R: Host + Wait>(rt: &R, client: &FtpStream, step: &str) -> FtpResult<u64> {
     match step {
-        "cwd" => client.cwd(rt, "up")?,
-        "type" => client.transfer_type(rt, FileType::Binary)?,
-        "list" => return Ok(client.list_entries(rt, None)?.unread.len() as u64),
-        "mlsd" => return Ok(client.mlsd(rt, None)?.len() as u64),
-        "put" => {
-            let bytes = [7; LENGTH];
-            return client.put_file(rt, "one.bin", &mut bytes.as_slice());
-        }
-        "size" => return Ok(client.size(rt, "one.bin")? as u64),
-        "get" => return Ok(client.retr_as_buffer(rt, "one.bin")?.len() as u64),
+        "list" => Ok(client.list_entries(rt, None)?.unread.len() as u64),
+        "mlsd" => Ok(client.mlsd(rt, None)?.len() as u64),
+        "put" => client.put_file(rt, "one.bin", &mut [7; LENGTH].as_slice()),
+        "size" => Ok(client.size(rt, "one.bin")? as u64),
+        "step" => Ok(client.size(rt, "big.bin")? as u64),
+        "get" => length(rt, client),
         "resume" => {
-            client.resume_transfer(rt, OFFSET)?;
-            return Ok(client.retr_as_buffer(rt, "one.bin")?.len() as u64);
+            command(rt, client, "offset")?;
+            length(rt, client)
         }
-        "rename" => client.rename(rt, "one.bin", "two.bin")?,
-        "rm" => client.rm(rt, "two.bin")?,
-        "mkdir" => client.mkdir(rt, "folder")?,
-        "rmdir" => client.rmdir(rt, "folder")?,
-        "abort" => abort(rt, client)?,
-        "resync" => client.resync(rt)?,
-        "step" => return Ok(client.size(rt, "big.bin")? as u64),
-        _ => client.quit(rt)?,
+        _ => {
+            command(rt, client, step)?;
+            Ok(0)
+        }
     }
-    Ok(0)
+}
+
+/// Downloads the file; how many bytes came.
+fn length<R: Host + Wait>(rt: &R, client: &FtpStream) -> FtpResult<u64> {
+    Ok(client.retr_as_buffer(rt, "one.bin")?.len() as u64)
+}
+
+/// Makes a command that returns nothing.
+fn command<R: Host + Wait>(rt: &R, client: &FtpStream, step: &str) -> FtpResult<()> {
+    match step {
+        "cwd" => client.cwd(rt, "up"),
+        "type" => client.transfer_type(rt, FileType::Binary),
+        "offset" => client.resume_transfer(rt, OFFSET),
+        "rename" => client.rename(rt, "one.bin", "two.bin"),
+        "rm" => client.rm(rt, "two.bin"),
+        "mkdir" => client.mkdir(rt, "folder"),
+        "rmdir" => client.rmdir(rt, "folder"),
+        "abort" => abort(rt, client),
+        "resync" => client.resync(rt),
+        _ => client.quit(rt),
+    }
 }
 
 /// Aborts a download once some of it has come.

@@ -1,6 +1,6 @@
 //! The calls of the polled client.
 
-use super::{LENGTH, LIMIT, OFFSET, STEPS, show};
+use super::{LENGTH, LIMIT, OFFSET, Place, STEPS, show};
 use anyhow::Result;
 use std::random::RandomSource;
 use std::sync::Wait;
@@ -10,23 +10,29 @@ use suppaftp::{FileType, FtpResult, Host, Mode};
 use tokio::runtime::LocalRuntime;
 
 /// Connects, and makes each call.
-pub fn run<R>(rt: &R, address: &str, login: (&str, &str), name: &str, mode: Mode) -> Result<()>
+pub fn run<R>(rt: &R, place: Place<'_>, login: (&str, &str), mode: Mode) -> Result<()>
 where
     R: Host + Wait + RandomSource + Print,
 {
     let mut runtime = LocalRuntime::new(rt)?;
-    let client = match connected(rt, &mut runtime, address, login) {
-        Ok(client) => client,
-        Err(error) => return show(
-            rt,
-            &format!(in rt.alloc(); "{address} polled {name} login")?,
-            Err(error),
-        ),
-    };
-    runtime.block_on(rt, client.set_mode(rt, mode))??;
+    match connected(rt, &mut runtime, place.address, login, mode) {
+        Ok(client) => make_all(rt, &mut runtime, &client, place),
+        Err(error) => show(rt, place, "login", Err(error)),
+    }
+}
+
+/// Makes each call.
+fn make_all<R>(
+    rt: &R,
+    runtime: &mut LocalRuntime,
+    client: &AsyncFtpStream,
+    place: Place<'_>,
+) -> Result<()>
+where
+    R: Host + Wait + RandomSource + Print,
+{
     for step in STEPS {
-        let call = format!(in rt.alloc(); "{address} polled {name} {step}")?;
-        show(rt, &call, made(rt, &mut runtime, &client, step))?;
+        show(rt, place, step, made(rt, runtime, client, step))?;
     }
     Ok(())
 }
@@ -37,6 +43,7 @@ fn connected<R>(
     runtime: &mut LocalRuntime,
     address: &str,
     login: (&str, &str),
+    mode: Mode,
 ) -> FtpResult<AsyncFtpStream>
 where
     R: Host + Wait + RandomSource,
@@ -46,6 +53,7 @@ where
     let transport = TokioTransport::of_runtime_with_limits(handle, wait, wait, wait)?;
     let client = runtime.block_on(rt, AsyncFtpStream::connect_to(rt, transport, address))??;
     runtime.block_on(rt, client.set_active_deadline(rt, limit))??;
+    runtime.block_on(rt, client.set_mode(rt, mode))??;
     runtime.block_on(rt, client.login(rt, login.0, login.1))??;
     Ok(client)
 }
