@@ -12,6 +12,9 @@ mod server;
 mod tally;
 
 use anyhow::{Context, Result};
+use mirror_run::mirror_folder;
+use playing::Playing;
+use rows_text::Row;
 use std::io;
 use tally::Tally;
 
@@ -19,9 +22,20 @@ fn main(rt: HostRuntime) -> Result<()> {
     let rows = io::read_to_string(rt.alloc(), rt.reader())?;
     let mut tally = Tally::new("");
     for (number, text) in (1u64..).zip(rows.split("\n\n")) {
-        tally
-            .read(&rt, text)
-            .context(format_args!("paragraph {number}"))?;
+        let row = Row::of(text).context(format_args!("paragraph {number}"))?;
+        let Some(row) = row else {
+            continue;
+        };
+        let mut playing = Playing::begin(&rt, row.lines)?;
+        for _ in 0..row.lines.len() {
+            let run = playing.next_run(&rt);
+            let Some(run) = run.context(format_args!("paragraph {number}"))? else {
+                break;
+            };
+            let is_alike = mirror_folder(&rt, &run.task, &run.report);
+            playing.ran(&rt, run, is_alike)?;
+        }
+        tally.add(&rt, row, &playing.end(&rt)?)?;
     }
     Ok(tally.end(&rt)?)
 }

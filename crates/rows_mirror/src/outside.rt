@@ -4,28 +4,25 @@
 
 use crate::served::Served;
 use crate::server::{STOP, serve};
-use anyhow::Result;
-use mirror_run::{Report, Shows, Task, mirror_folder};
 use std::alloc::{AllocError, Global};
 use std::fs::{FileTimes, OpenFile};
 use std::io::{Read, Write};
-use std::net::{Net, TcpListener, TcpStream};
+use std::net::{Net, SocketAddr, TcpListener, TcpStream};
 use std::rt::Files;
 use std::sync::Wait;
-use std::thread::Threads;
+use std::thread::{JoinHandle, Threads};
 use std::time::{Clock, Duration, SystemTime};
 use std::{fs, io, thread};
 
 /// 2024-01-02 03:04:05, in seconds since 1970: when the files were last changed that a row begins with.
 const MODIFIED: u64 = 1_704_164_645;
 
-/// What came of a run of the mirror.
+/// A server in a thread of its own.
 #[derive(Drop)]
-pub struct Ran {
-    /// What the server has then.
-    pub served: Served,
-    pub told: String,
-    pub is_alike: bool,
+pub struct Serving {
+    /// Where it listens.
+    pub address: SocketAddr,
+    thread: JoinHandle<io::Result<Served>>,
 }
 
 /// What a row needs of the system.
@@ -48,8 +45,11 @@ pub trait Outside: Wait {
     /// The names in a folder, and whether each is a folder.
     fn list(&self, path: &str) -> io::Result<Vec<(String, bool)>>;
 
-    /// Serves on loopback, in a thread of its own, and mirrors.
-    fn run(&self, served: Served, task: Task) -> Result<Ran>;
+    /// Serves on loopback, in a thread of its own.
+    fn serve(&self, served: Served) -> io::Result<Serving>;
+
+    /// Stops a server; what it has then.
+    fn stop(&self, serving: Serving) -> io::Result<Served>;
 }
 
 impl<
@@ -105,27 +105,24 @@ impl<
         Ok(entries)
     }
 
-    fn run(&self, served: Served, mut task: Task) -> Result<Ran> {
+    fn serve(&self, served: Served) -> io::Result<Serving> {
         let alloc = Alloc::alloc(self);
         let listener = TcpListener::bind(self, "127.0.0.1:0")?;
         let data = TcpListener::bind(self, "127.0.0.1:0")?;
         let address = listener.local_addr()?;
-        task.site.address = format!(in alloc; "{address}")?;
-        let serving = match thread::spawn(self, move || serve(alloc, &listener, &data, served)) {
-            Ok(serving) => serving,
-            Err(error) => return Err(AllocError::from(error).into()),
-        };
-        let report = Report::new(alloc, Shows::Kept);
-        let is_alike = mirror_folder(self, &task, &report);
+        match thread::spawn(self, move || serve(alloc, &listener, &data, served)) {
+            Ok(thread) => Ok(Serving { address, thread }),
+            Err(error) => Err(AllocError::from(error).into()),
+        }
+    }
+
+    fn stop(&self, serving: Serving) -> io::Result<Served> {
+        let Serving { address, thread } = serving;
         let mut stream = TcpStream::connect(self, address)?;
         stream.write_all(STOP.as_bytes())?;
         stream.write_all(b"\r\n")?;
-        let mut greeting = Vec::new(alloc);
+        let mut greeting = Vec::new(Alloc::alloc(self));
         stream.read_to_end(&mut greeting)?;
-        Ok(Ran {
-            served: serving.join(self)?,
-            told: report.into_kept(),
-            is_alike,
-        })
+        thread.join(self)
     }
 }

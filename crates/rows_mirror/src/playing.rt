@@ -1,56 +1,121 @@
-//! A row is played: its folder is mirrored from its server, or to it.
+//! A row is played: its folder is mirrored from its server, or to it. The runs themselves are `main`'s, since a runtime that is
+//! only known by what it can do can't be shared by threads.
 
 use crate::folder;
-use crate::outside::{Outside, Ran};
+use crate::outside::{Outside, Serving};
 use crate::served::Served;
 use anyhow::Result;
 use mirror_plan::Policy;
-use mirror_run::{Site, Task};
+use mirror_run::{Report, Shows, Site, Task};
 use rows_text::RowError;
 use std::alloc::Global;
+use std::mem;
 use std::time::Duration;
 
 /// How long the client waits for the server, in seconds.
 const LIMIT: u64 = 20;
 
-/// Plays the lines of a row; its transcript.
-///
-/// # Errors
-/// A line isn't understood; a file, a socket or memory fails.
-pub fn play<O: Outside>(rt: &O, lines: &str) -> Result<String> {
-    let alloc = rt.alloc();
-    folder::begin(rt)?;
-    let mut served = Served::new(alloc)?;
-    let mut transcript = String::new(alloc);
-    for line in lines.lines() {
-        let (verb, words) = line.split_once(' ').unwrap_or((line, ""));
-        match verb {
-            "here" => folder::put(rt, words)?,
-            "run" => served = run(rt, served, words, &mut transcript)?,
-            _ => served.read(alloc, verb, words)?,
-        }
-    }
-    transcript.push_str(folder::all(rt)?.as_str())?;
-    folder::end(rt)?;
-    Ok(transcript)
+/// A row that is played.
+#[derive(Drop)]
+pub struct Playing<'a> {
+    // The lines that are still to be played.
+    left: &'a str,
+    served: Served,
+    transcript: String,
 }
 
-/// Mirrors with these options. The transcript has what the server was sent, what was told, and the status.
-fn run<O: Outside>(rt: &O, served: Served, words: &str, transcript: &mut String) -> Result<Served> {
-    let ran = rt.run(served, task_of(rt.alloc(), words)?)?;
-    let Ran {
-        mut served,
-        told,
-        is_alike,
-    } = ran;
-    transcript.push_str(served.log.as_str())?;
-    served.log.clear();
-    for line in told.lines() {
-        write!(transcript, "told {line}\n")?;
+/// A run of the mirror, which is to be made.
+#[derive(Drop)]
+pub struct Run {
+    pub task: Task,
+    pub report: Report,
+    serving: Serving,
+}
+
+impl<'a> Playing<'a> {
+    /// These lines, before the first.
+    ///
+    /// # Errors
+    /// The folder can't be made.
+    pub fn begin<O: Outside>(rt: &O, lines: &'a str) -> Result<Playing<'a>> {
+        folder::begin(rt)?;
+        Ok(Playing {
+            left: lines,
+            served: Served::new(rt.alloc())?,
+            transcript: String::new(rt.alloc()),
+        })
     }
-    let status = if is_alike { 0 } else { 1 };
-    write!(transcript, "status {status}\n")?;
-    Ok(served)
+
+    /// Plays lines up to the next run; none where no other follows.
+    ///
+    /// # Errors
+    /// A line isn't understood; a file, a socket or memory fails.
+    pub fn next_run<O: Outside>(&mut self, rt: &O) -> Result<Option<Run>> {
+        for _ in 0..self.left.len() {
+            let (line, left) = self.left.split_once('\n').unwrap_or((self.left, ""));
+            self.left = left;
+            let (verb, words) = line.split_once(' ').unwrap_or((line, ""));
+            match verb {
+                "" => {}
+                "here" => folder::put(rt, words)?,
+                "run" => return Ok(Some(self.run(rt, words)?)),
+                _ => self.served.read(rt.alloc(), verb, words)?,
+            }
+        }
+        Ok(None)
+    }
+
+    /// A run with these options, whose server is there.
+    fn run<O: Outside>(&mut self, rt: &O, words: &str) -> Result<Run> {
+        let mut task = task_of(rt.alloc(), words)?;
+        let served = mem::replace(&mut self.served, Served::new(rt.alloc())?);
+        let serving = rt.serve(served)?;
+        write!(task.site.address, "{}", serving.address)?;
+        Ok(Run {
+            task,
+            report: Report::new(rt.alloc(), Shows::Kept),
+            serving,
+        })
+    }
+
+    /// A run was made. The transcript has what the server was sent, what was told, and the status.
+    ///
+    /// # Errors
+    /// The server can't be stopped, or out of memory.
+    pub fn ran<O: Outside>(&mut self, rt: &O, run: Run, is_alike: bool) -> Result<()> {
+        let Run {
+            task,
+            report,
+            serving,
+        } = run;
+        drop(task);
+        let told = report.into_kept();
+        drop(mem::replace(&mut self.served, rt.stop(serving)?));
+        self.transcript.push_str(self.served.log.as_str())?;
+        self.served.log.clear();
+        for line in told.lines() {
+            write!(self.transcript, "told {line}\n")?;
+        }
+        let status = if is_alike { 0 } else { 1 };
+        write!(self.transcript, "status {status}\n")?;
+        Ok(())
+    }
+
+    /// The transcript, with what stands in the folder, which is removed.
+    ///
+    /// # Errors
+    /// A file or memory fails.
+    pub fn end<O: Outside>(self, rt: &O) -> Result<String> {
+        let Self {
+            left: _,
+            served,
+            mut transcript,
+        } = self;
+        drop(served);
+        transcript.push_str(folder::all(rt)?.as_str())?;
+        folder::end(rt)?;
+        Ok(transcript)
+    }
 }
 
 /// The task of these options, with one connection and no pauses.

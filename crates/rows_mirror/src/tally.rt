@@ -1,7 +1,6 @@
 //! The rows of a set that were played, and those that differed.
 
 use crate::outside::Outside;
-use crate::playing::play;
 use anyhow::Result;
 use rows_text::Row;
 use std::io;
@@ -24,21 +23,17 @@ impl<'a> Tally<'a> {
         }
     }
 
-    /// Reads a paragraph, plays its row, and prints it where it differs.
+    /// Counts a row that was played, and prints it where its transcript differs.
     ///
     /// # Errors
-    /// A line isn't understood; a file, a socket or memory fails.
-    pub fn read<O: Outside>(&mut self, rt: &O, paragraph: &'a str) -> Result<()> {
-        let Some(row) = Row::of(paragraph)? else {
-            return Ok(());
-        };
+    /// Those of printing; out of memory.
+    pub fn add<O: Outside>(&mut self, rt: &O, row: Row<'a>, came: &str) -> Result<()> {
         if row.set != self.set {
             self.end(rt)?;
             *self = Tally::new(row.set);
         }
         self.rows = self.rows.saturating_add(1);
-        let came = play(rt, row.lines)?;
-        if came.as_str().trim_end() == row.due.trim_end() {
+        if came.trim_end() == row.due.trim_end() {
             return Ok(());
         }
         self.differ = self.differ.saturating_add(1);
@@ -46,7 +41,7 @@ impl<'a> Tally<'a> {
             set,
             title,
             due,
-            ..
+            lines: _,
         } = row;
         rt.print(&format!(in rt.alloc(); "{set}: {title}\ndue\n{due}\ncame\n{came}")?)?;
         Ok(())
