@@ -1,56 +1,35 @@
 //! `ftpmirror`: makes a local folder like a folder of an FTP server, or the other way.
 #![tactic(auto)]
 
-mod carrying;
-mod downloading;
-mod filters;
-mod local_tree;
-mod mirroring;
-mod pool;
-mod problem;
-mod report;
-mod retrying;
-mod server_tree;
-mod site;
-mod trees;
-mod uploading;
+mod address;
 mod words;
 
-use crate::carrying::copy_some;
-use crate::mirroring::{finish, prepare};
-use crate::pool::Pool;
-use crate::report::Report;
 use crate::words::{Asked, read_words};
 use anyhow::Result;
+use mirror_run::{Report, Shows, mirror_folder};
+use std::env;
+use std::io::IsTerminal;
 use std::process::ExitCode;
-use std::{env, thread};
 
 /// Runs the program, and returns its status: 0 where the trees are alike, 1 where something was left undone, 2 where the
 /// words aren't understood.
 fn main(rt: HostRuntime) -> Result<ExitCode> {
     let words: Vec<String> = env::args(&rt)?.collect(rt.alloc())?;
-    let task = match read_words(&rt, words.as_slice())? {
-        Asked::Task(task) => task,
+    let (task, is_quiet) = match read_words(&rt, words.as_slice())? {
+        Asked::Task(task, is_quiet) => (task, is_quiet),
         Asked::Ends(status) => return Ok(ExitCode::from(status)),
     };
-    let made = Report::new(task.quiet);
-    let clients = Pool::new(rt.alloc(), &task.site);
-    let copies = match prepare(&rt, &task, &clients, &made) {
-        Ok(copies) => copies,
-        Err(error) => {
-            let _ = eprintln!(rt; "ftpmirror: {error:#}");
-            return Ok(ExitCode::from(1));
-        }
+    let shows = if task.dry_run {
+        Shows::Lines
+    } else if is_quiet {
+        Shows::Problems
+    } else if rt.stdout().is_terminal() {
+        Shows::Bar
+    } else {
+        Shows::Lines
     };
-    // the files of a thread can't be those of a runtime that is only known by what it can do
-    let (host, task, pool, report, files) = (&rt, &*task, &clients, &made, &copies);
-    thread::scope(thread::scope_env(), &rt, |scope| {
-        for _ in 1..task.jobs {
-            let _ = scope.spawn(move || copy_some(host, task, pool, report, files));
-        }
-        copy_some(host, task, pool, report, files);
-    });
-    if finish(&rt, &clients, &made) {
+    let report = Report::new(rt.alloc(), shows);
+    if mirror_folder(&rt, &task, &report) {
         Ok(ExitCode::SUCCESS)
     } else {
         Ok(ExitCode::from(1))

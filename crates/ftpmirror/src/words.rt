@@ -1,42 +1,20 @@
 //! The words that the program is called with.
 
-use crate::site::{Site, site_of};
+use crate::address::site_of;
 use anyhow::{Context, Result, bail};
 use clap::{Arg, ArgAction, ArgMatches, Command};
 use mirror_plan::Policy;
+use mirror_run::Task;
 use std::alloc::Global;
 use std::io::Input;
 use std::rt::Env;
 use std::time::Duration;
 
-/// What the program is asked to do.
-#[derive(Drop)]
-pub struct Task {
-    /// The server, and the folder there.
-    pub site: Site,
-    /// The folder here.
-    pub local: String,
-    /// Whether the server's folder is to become like the one here.
-    pub uploads: bool,
-    /// How many connections there are at once.
-    pub jobs: usize,
-    /// How often a connection that is lost is made anew, for each file.
-    pub retries: u32,
-    /// What the plan may do.
-    pub policy: Policy,
-    /// Whether the plan is only printed.
-    pub dry_run: bool,
-    /// Whether only what is left undone is printed.
-    pub quiet: bool,
-    /// The patterns of names that are mirrored, all where there is none, and of those that aren't.
-    pub include: Vec<String>,
-    pub exclude: Vec<String>,
-}
-
 /// What the words come to: a task, or an end with this status.
 #[derive(Drop)]
 pub enum Asked {
-    Task(Box<Task>),
+    /// A task, and whether only what is left undone is printed.
+    Task(Box<Task>, bool),
     Ends(u8),
 }
 
@@ -57,7 +35,7 @@ where
         }
     };
     match task_of(rt, &matches) {
-        Ok(task) => Ok(Asked::Task(Box::new(rt.alloc(), task)?)),
+        Ok(task) => Ok(Asked::Task(Box::new(rt.alloc(), task)?, matches.get_flag("quiet"))),
         Err(error) => {
             let _ = eprintln!(rt; "ftpmirror: {error:#}");
             Ok(Asked::Ends(2))
@@ -126,6 +104,7 @@ fn with_flags<'w>(alloc: Global, command: Command<'w>) -> Result<Command<'w>> {
             "newer",
             "copy files of the same size, too, that are newer",
         ))?
+        .arg(flag(alloc, "links", "copy what the server's links lead to"))?
         .arg(flag(alloc, "dry-run", "only print the plan"))?
         .arg(flag(alloc, "latin1", "names are ISO 8859-1, a byte a character"))?
         .arg(flag(alloc, "active", "have the server connect (PORT, EPRT)"))?
@@ -175,6 +154,9 @@ where
     let from = matches.get_str("from").context("FROM is missing")?;
     let to = matches.get_str("to").context("TO is missing")?;
     let uploads = matches.get_flag("upload");
+    if uploads && matches.get_flag("links") {
+        bail!("--links is of downloads");
+    }
     let (address, local) = if uploads { (to, from) } else { (from, to) };
     let mut site = site_of(rt, address, matches.get_flag("password-stdin"))?;
     site.limit = Duration::from_secs(u64::from(number_of(matches, "limit")?));
@@ -187,12 +169,13 @@ where
         uploads,
         jobs: number_of(matches, "jobs")? as usize,
         retries: number_of(matches, "retries")?,
+        first_pause: Duration::from_secs(1),
         policy: Policy {
             delete: matches.get_flag("delete"),
             newer: matches.get_flag("newer"),
         },
+        follows_links: matches.get_flag("links"),
         dry_run: matches.get_flag("dry-run"),
-        quiet: matches.get_flag("quiet"),
         include: patterns_of(alloc, matches, "include")?,
         exclude: patterns_of(alloc, matches, "exclude")?,
     })

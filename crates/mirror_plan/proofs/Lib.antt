@@ -7,3 +7,4 @@ pub mod MakeFacts
 pub mod LikeFacts
 pub mod JustFacts
 pub mod SettledFacts
+pub mod AfterFacts

@@ -26,7 +26,7 @@ pub after_append : (xs ys : List Action) (tree : Path → Option Node) → all_c
 after_append [] ys tree = refl
 after_append (x ∷ xs) ys tree = after_append xs ys (carried_out x tree)
 
-not_before_itself : (p : Path) → path_cmp p p ≡ Less → ⊥
+pub not_before_itself : (p : Path) → path_cmp p p ≡ Less → ⊥
 not_before_itself p less = false≢true (sym (ap is_eq less) ∙ is_same-refl p)
 
 -- what is below something that is gone is gone

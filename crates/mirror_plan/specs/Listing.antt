@@ -5,7 +5,7 @@ use Rattle.std.specs.declared.cmp.Ordering.TheVariants.{Less, Greater}
 use Rattle.std.specs.Map.{lookup}
 use Rattle.mirror_plan.specs.declared.node.Node.{Node}
 use Rattle.mirror_plan.specs.declared.node.Node.TheVariants.{Folder, File, Other}
-use Rattle.mirror_plan.specs.Paths.{Path, path_cmp}
+use Rattle.mirror_plan.specs.Paths.{Path, path_cmp, is_below}
 
 -- what was listed: whether the root was listed whole, and what stands at each path below it
 pub record Listing : Type 0 where
@@ -70,3 +70,9 @@ pub record IsGap (entries : List (Path × Node)) (path : Path) (place : ℕ) : T
   pub after : (k : ℕ) (entry : Path × Node) → k < place → slice_get entries k ≡ Some entry → path_cmp path entry.0 ≡ Greater
   pub before : (k : ℕ) (entry : Path × Node) → place ≤ k → slice_get entries k ≡ Some entry → path_cmp path entry.0 ≡ Less
   pub absent : node_at entries path ≡ None
+
+-- none of the entries before this place is below the path, and the path comes before each of the others
+pub record IsStart (entries : List (Path × Node)) (path : Path) (start : ℕ) : Type 0 where
+  pub in_range : start ≤ length entries
+  pub earlier : (k : ℕ) (entry : Path × Node) → k < start → slice_get entries k ≡ Some entry → is_below entry.0 path ≡ false
+  pub later : (k : ℕ) (entry : Path × Node) → start ≤ k → slice_get entries k ≡ Some entry → path_cmp path entry.0 ≡ Less

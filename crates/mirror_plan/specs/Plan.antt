@@ -60,9 +60,13 @@ is_kept (Folder is_whole) = not is_whole
 is_kept (File size modified) = false
 is_kept Other = true
 
+-- one of these entries is below the path and never removed
+abbrev pub kept_below : List (Path × Node) → Path → Bool
+kept_below entries path = list_any (λ entry. is_kept entry.1 && is_below entry.0 path) entries
+
 -- something below the path is never removed
 abbrev pub holds_kept : Listing → Path → Bool
-holds_kept to path = list_any (λ entry. is_kept entry.1 && is_below entry.0 path) to.entries
+holds_kept to path = kept_below to.entries path
 
 -- the node is to be removed
 abbrev pub is_removed : Listing → Listing → Policy → Path → Node → Bool

@@ -8,7 +8,7 @@ ghost use Rattle.mirror_plan.specs.Plan as plan;
 use crate::action::Reason;
 use crate::node::{Node, Policy, is_folder};
 use crate::path::{Name, RelativePath, is_below};
-use crate::tree::Tree;
+use crate::tree::{Tree, start_below};
 
 /// What stands at a path, or at the last name on the way to it that is there.
 fn nearest(tree: &Tree, names: &[Name]) -> Option<Node>
@@ -107,10 +107,21 @@ fn is_kept(node: Node) -> bool
     }
 }
 
+/// Whether something below a folder is never removed. What is below it comes directly after it.
 fn holds_kept(to: &Tree, folder: &[Name]) -> bool
     ensures { result ≡ plan.holds_kept to.now folder.now }
 {
-    to.entries().iter().any(|entry| is_kept(entry.1) && is_below(entry.0.names(), folder))
+    let entries = to.entries();
+    let start = start_below(entries, folder);
+    for entry in &entries[start..] {
+        if !is_below(entry.0.names(), folder) {
+            return false;
+        }
+        if is_kept(entry.1) {
+            return true;
+        }
+    }
+    false
 }
 
 /// Whether a node of the second tree is removed.

@@ -143,8 +143,8 @@ fn push_unremoved(
 /// A path where one tree has a file and the other a folder is left, and so is all that is below it. Nothing is ever
 /// removed to make room for something of another kind. Each path that is left is in `undone`, with the reason.
 ///
-/// A folder that is removed costs a pass over `to`; all else takes about as many steps as the trees have entries, each
-/// times the depth of its path and the logarithm of the other tree's size.
+/// That takes about as many steps as the trees have entries, each times the depth of its path and the logarithm of the other
+/// tree's size; a folder that is removed costs a pass over what is below it, besides.
 ///
 /// # Errors
 /// `AllocError`.

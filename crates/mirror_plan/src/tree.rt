@@ -4,7 +4,7 @@
 //! in the tree already.
 ghost use Rattle.std.specs.Prelude.{◌≡◌, ◌↔◌, [], Some, IsSome, IsTrue, false, IfOk, IfErr, OnOk, OnErr};
 ghost use Rattle.mirror_plan.specs.Paths.{Path, parent_of};
-ghost use Rattle.mirror_plan.specs.Listing.{is_folder, updated, IsAscending, IsPlace, IsGap};
+ghost use Rattle.mirror_plan.specs.Listing.{is_folder, updated, IsAscending, IsPlace, IsGap, IsStart};
 
 use crate::node::{Node, is_folder};
 use crate::path::{Name, RelativePath, compare};
@@ -148,4 +148,15 @@ fn position(entries: &[(RelativePath, Node)], names: &[Name]) -> Result<usize, u
         }
     }
     Err(low)
+}
+
+/// Where what is below a path begins among the entries.
+pub(crate) fn start_below(entries: &[(RelativePath, Node)], names: &[Name]) -> usize
+    requires { IsAscending entries.now }
+    ensures { IsStart entries.now names.now result }
+{
+    match position(entries, names) {
+        Ok(index) => index + 1,
+        Err(index) => index,
+    }
 }

@@ -1,41 +1,14 @@
-//! The server, and clients of it.
+//! Addresses of a server's folder.
 
 use anyhow::{Context, Result, bail};
-use ftp_base::encoding::Latin1Encoding;
-use ftp_base::types::{FileType, FtpError, FtpResult, Mode};
-use ftp_blocking::ImplFtpStream;
-use ftp_session::session::NoTlsConnector;
-use ftp_transport::TcpTransport;
+use mirror_run::Site;
 use percent_encoding::percent_decode_str;
 use std::alloc::Global;
 use std::env;
 use std::io::{BufRead, Input};
-use std::net::{Net, TcpListener, TcpStream};
 use std::rt::Env;
-use std::sync::Wait;
-use std::time::{Clock, Duration};
+use std::time::Duration;
 use url::Url;
-
-/// A client. Its names are UTF-8, until it is told otherwise.
-pub type Client = ImplFtpStream<TcpTransport, NoTlsConnector, Latin1Encoding>;
-
-/// A server, a folder of it, and how it is called.
-#[derive(Drop)]
-pub struct Site {
-    /// Where it listens, as `ftp.example.org:21`.
-    pub address: String,
-    /// Whom the server is told.
-    pub user: String,
-    pub password: String,
-    /// The folder, as paths of the server begin; empty for the one that a login leads to.
-    pub folder: String,
-    /// How long a wait may last.
-    pub limit: Duration,
-    /// Whether the server connects for data, replies are read leniently, and names are ISO 8859-1.
-    pub is_active: bool,
-    pub is_lenient: bool,
-    pub is_latin1: bool,
-}
 
 /// The site of an address, `ftp://[user[:password]@]host[:port]/folder`.
 ///
@@ -107,54 +80,5 @@ where
     match env::var(rt, "FTP_PASSWORD") {
         Ok(password) => Ok(password),
         Err(_) => Ok(String::new(rt.alloc())),
-    }
-}
-
-impl Site {
-    /// A client that has logged in and moves files as they are.
-    ///
-    /// # Errors
-    /// Those of connecting and logging in.
-    pub fn connect<R>(&self, rt: &R) -> FtpResult<Client>
-    where
-        R: Net<Listener = TcpListener, Stream = TcpStream> + Clock + Wait + AllocGlobal,
-    {
-        let client = Client::connect_to_within(rt, self.address.as_str(), self.limit)?;
-        if self.is_lenient {
-            client.set_lenient_replies(rt, true);
-        }
-        if self.is_active {
-            client.set_mode(rt, Mode::Active);
-        }
-        client.login(rt, self.user.as_str(), self.password.as_str())?;
-        self.settle_names(rt, &client)?;
-        client.transfer_type(rt, FileType::Binary)?;
-        Ok(client)
-    }
-
-    /// Has the server send names as they are read here: UTF-8 where it has that (RFC 2640), or a byte a character.
-    fn settle_names<R>(&self, rt: &R, client: &Client) -> FtpResult<()>
-    where
-        R: Wait + AllocGlobal,
-    {
-        if self.is_latin1 {
-            return client.set_encoding(rt, Latin1Encoding);
-        }
-        match client.opts(rt, "UTF8", Some("ON")) {
-            Err(FtpError::UnexpectedResponse(reply)) => {
-                drop(reply);
-                Ok(())
-            }
-            other => other,
-        }
-    }
-
-    /// How paths below the folder begin.
-    pub fn root(&self) -> &str {
-        if self.folder.is_empty() {
-            "."
-        } else {
-            self.folder.as_str()
-        }
     }
 }

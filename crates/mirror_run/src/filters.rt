@@ -1,6 +1,6 @@
 //! Patterns of names.
 
-use crate::words::Task;
+use crate::task::Task;
 use std::alloc::{AllocError, Global};
 
 /// Whether a file of this name is mirrored: it is like a pattern that is included, or none is, and like none that is

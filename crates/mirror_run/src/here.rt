@@ -1,49 +1,16 @@
-//! The tree here.
+//! What is asked of the files here.
 
-use crate::report::Report;
-use crate::trees::{DEPTH, ENTRIES, Growing, Kind, Listed};
-use crate::words::Task;
-use anyhow::{Context, Result};
-use mirror_plan::Tree;
-use std::fs::Metadata;
-use std::io::ErrorKind;
+use crate::listed::{ENTRIES, Kind, Listed};
+use std::fs::{FileTimes, Metadata, OpenFile, OpenOptions};
 use std::rt::Files;
-use std::sync::Wait;
-use std::time::SystemTime;
+use std::time::{Duration, SystemTime};
 use std::{fs, io};
 
-/// What stands below the folder here, which a dry run may lack. A part of a file isn't told of.
+/// What stands in a folder here. A part of a file is passed over.
 ///
 /// # Errors
-/// A folder can't be read, or out of memory.
-pub fn local_tree<R>(rt: &R, task: &Task, report: &Report) -> Result<Tree>
-where
-    R: Files + Wait + AllocGlobal + Clone + Drop + Eprint,
-{
-    let root = match list_folder(rt, task.local.as_str()) {
-        Err(error) if task.dry_run && error.kind() == ErrorKind::NotFound => Listed {
-            is_whole: true,
-            entries: Vec::new(rt.alloc()),
-        },
-        listed => listed.context(format_args!("{}", task.local))?,
-    };
-    let mut growing = Growing::root(rt, task, report, root)?;
-    for _ in 1..DEPTH {
-        let level = growing.next_level(rt.alloc());
-        if level.is_empty() {
-            break;
-        }
-        for (number, folder) in level {
-            let path = folder.below(rt.alloc(), task.local.as_str())?;
-            let listed = list_folder(rt, path.as_str()).context(format_args!("{path}"))?;
-            growing.fill(rt, task, report, number, Some(&folder), listed)?;
-        }
-    }
-    growing.into_tree(rt, report)
-}
-
-/// What stands in a folder here.
-fn list_folder<R>(rt: &R, path: &str) -> io::Result<Listed>
+/// The folder can't be read, or out of memory.
+pub fn list<R>(rt: &R, path: &str) -> io::Result<Listed>
 where
     R: Files + AllocGlobal + Clone + Drop,
 {
@@ -98,4 +65,17 @@ fn kind_of(metadata: &Metadata) -> Kind {
 fn seconds_of(time: io::Result<SystemTime>) -> Option<i64> {
     let since = time.ok()?.duration_since(SystemTime::UNIX_EPOCH).ok()?;
     i64::try_from(since.as_secs()).ok()
+}
+
+/// Sets the time of a file here, in seconds since 1970.
+///
+/// # Errors
+/// It can't be done.
+pub fn set_time<R: Files>(rt: &R, path: &str, seconds: i64) -> io::Result<()> {
+    let since = Duration::from_secs(seconds.unsigned_abs());
+    let Some(time) = SystemTime::UNIX_EPOCH.checked_add(since) else {
+        return Ok(());
+    };
+    let file = OpenOptions::new().append(true).open(rt, path)?;
+    file.set_times(FileTimes::new().set_modified(time))
 }
