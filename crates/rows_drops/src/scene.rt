@@ -7,8 +7,6 @@ use crate::script::{Asked, Script};
 use crate::slow::{SlowConn, SlowTransport};
 use crate::transcript::{Part, Transcript};
 use ftp_session::session::{Call, Session};
-use futures::executor::block_on;
-use futures::future::poll_immediate;
 use rows_plays::{boxed, had};
 use rows_text::RowError;
 use std::alloc::{AllocError, Global};
@@ -54,14 +52,20 @@ fn client_on(
 }
 
 /// The control connection, where nobody holds the client's lock.
-fn look<R: Wait + RandomSource + AllocGlobal>(
-    rt: &R,
+fn look<'r, R: Wait + RandomSource + AllocGlobal>(
+    rt: &'r R,
     client: &Client,
 ) -> Result<Option<Control>, RowError> {
-    match block_on(rt, poll_immediate(client.get_ref())) {
-        Ok(Some(outcome)) => Ok(Some(had(outcome)?)),
-        Ok(None) => Ok(None),
-        Err(_) => Err(RowError::OutOfMemory),
+    let mut state: State<'r, R> = State::Lend(client.get_ref());
+    let outcome = go_on(rt, &mut state, How::Polls(1));
+    drop(state);
+    match outcome? {
+        Some(Outcome::Lent(control)) => Ok(Some(had(control)?)),
+        Some(other) => {
+            drop(other);
+            Err(RowError::NotUnderstood)
+        }
+        None => Ok(None),
     }
 }
 
