@@ -16,8 +16,11 @@ use std::marker::Model;
 /// How many bytes a read asks for at most.
 const CHUNK: usize = 65_536;
 
-/// How many bytes the first read asks for.
-const FIRST: usize = 8_192;
+/// How many bytes the first read asks for: a small file's, since memory is filled before it is read into.
+const FIRST: usize = 2_000;
+
+/// How many bytes a later read asks for at least.
+const NEXT: usize = 8_192;
 
 /// The bytes that were read so far, at the front of a buffer that has room for more.
 pub struct Gathered {
@@ -123,8 +126,8 @@ pub(super) fn fitted(mut buffer: Vec<u8>) -> Bytes
     Bytes::from_vec(buffer)
 }
 
-/// Reads once into a buffer, after its filled bytes. It asks for as many bytes as are filled, within the limits of the
-/// first read and of each; where less than half of them have room, the buffer grows first.
+/// Reads once into a buffer, after its filled bytes. Where it has no room for half as many, it grows first by as many as are
+/// filled, within the limits of a read.
 ///
 /// # Errors
 /// There is no memory to grow, and nothing is read.
@@ -148,8 +151,13 @@ fn read_after<W, Tr: Network, A: Asks<Tr, W>>(
         conn.new)) }
     ensures none { OnErr result (Tr.Conn.told conn.new ≡ Tr.Conn.told conn.old) }
 {
-    let asked = filled.max(FIRST).min(CHUNK);
-    if buffer.len() - filled < asked / 2 {
+    let least = filled.min(CHUNK).div_ceil(2).max(1);
+    if buffer.len() - filled < least {
+        let asked = if filled == 0 {
+            FIRST
+        } else {
+            filled.max(NEXT).min(CHUNK)
+        };
         let Some(end) = filled.checked_add(asked) else {
             return Err(AllocError);
         };

@@ -1,5 +1,5 @@
 -- What a connection, a connect and a listener wait for.
-use Rattle.std.specs.Prelude.{◌≡◌, ◌≢◌, ◌⊎◌, ◌+◌, min, ℕ, Bool, true, false, Option, Some, None, Result, Ok, Err, IsSomeAnd}
+use Rattle.std.specs.Prelude.{◌≡◌, ◌≢◌, ◌⊎◌, ◌+◌, min, ℕ, Bool, true, false, Option, Some, None, Result, Ok, Err, IsSome, IsSomeAnd}
 use Rattle.std.specs.declared.io.ErrorKind.{ErrorKind}
 use Rattle.futures.specs.declared.task.Poll.{Poll}
 use Rattle.futures.specs.declared.task.Poll.TheVariants.{Ready, Pending}
@@ -11,6 +11,7 @@ use Rattle.futures.specs.Task.{Hears}
 use Rattle.tokio.specs.declared.time.interval.Interval.{Interval}
 use Rattle.tokio.specs.Timers.{interval_delay, sleep_source}
 use Rattle.ftp_tokio.specs.declared.conn.TokioConn.{TokioConn}
+use Rattle.ftp_tokio.specs.declared.watch.Timing.{Timing}
 use Rattle.ftp_tokio.specs.declared.watch.Watch.{Watch}
 use Rattle.tokio.specs.Net.{ConnectNeeds, connect_state, listener_readable, stream_readable, stream_writable}
 
@@ -25,6 +26,10 @@ abbrev pub TakesTurns : {A : Type 0} → Result (Poll A) ErrorKind → ℕ → �
 TakesTurns (Ok (Ready value)) before after = (before ≢ 32) × (after ≡ min (before + 1) 255)
 TakesTurns (Ok Pending) before after = after ≡ 0
 TakesTurns (Err kind) before after = Unit {0}
+
+-- a read of an open connection fails with the error that a wait has met, where one has
+abbrev pub FailsAsMet : {A : Type 0} → TokioConn → Result A ErrorKind → Type 0
+FailsAsMet conn result = (kind : ErrorKind) → conn.read_error ≡ Some kind → IsSome conn.stream → result ≡ Err kind
 
 -- a read that waits, of this socket, waits until it can be read
 abbrev pub ReadNeeds : Option TcpStream → Bool → ℕ → Type 0
@@ -60,5 +65,9 @@ abbrev pub IsRungBy : Context → Option Interval → Type 0
 IsRungBy cx ticks = (cx.is_woken ≡ true) ⊎ IsSomeAnd ticks (Rings cx)
 
 -- the task is woken at the end of a wait's limit, or at the turn from which it is counted; or is polled again at once
+abbrev pub IsTimed : Context → Timing → Type 0
+IsTimed cx timing = IsRungBy cx timing.end ⊎ IsRungBy cx timing.turn
+
+-- the same where there is a limit
 abbrev pub IsRung : Context → Watch → Type 0
-IsRung cx watch = IsRungBy cx watch.end ⊎ IsRungBy cx watch.turn
+IsRung cx watch = IsSomeAnd watch.timing (λ timing. IsTimed cx timing.value)

@@ -9,15 +9,16 @@
 //! still has nothing for it. A wait ends when bytes come or go, not when its future is dropped; a read's begins anew with
 //! each write, too, since what answers that can't have come before.
 
-ghost use Rattle.std.specs.Prelude.{◌≡◌, ◌≢◌, ℕ, Err, IsSome, None, Ok, false, length, true, ◌+◌, min};
+ghost use Rattle.std.specs.Prelude.{◌≡◌, ◌≢◌, ℕ, Err, IsSome, None, Ok, Some, false, length, true, ◌+◌, min};
 ghost use Rattle.std.specs.Option.{option_copied};
 ghost use Rattle.std.specs.declared.io.ErrorKind.TheVariants.{NotConnected, TimedOut, WouldBlock};
 ghost use Rattle.futures.specs.Task.{Covers, Keeps};
+ghost use Rattle.futures.specs.declared.task.Poll.TheVariants.{Pending};
 ghost use Rattle.ftp_transport.specs.Memory.{fresh_memory};
 ghost use Rattle.ftp_transport.specs.Told.{ReadsAtMost, WritesSome};
 ghost use Rattle.ftp_transport.specs.declared.waiting.Waiting.TheVariants as waits;
-ghost use Rattle.ftp_tokio.specs.Needs.{ConnNeeds, IsOverOn, IsRung, ReadNeeds, Remembers, TakesTurns, WriteNeeds};
-ghost use Rattle.ftp_tokio.specs.Outcomes.{conn_over, no_watch};
+ghost use Rattle.ftp_tokio.specs.Needs.{ConnNeeds, FailsAsMet, IsOverOn, IsRung, ReadNeeds, Remembers, TakesTurns, WriteNeeds};
+ghost use Rattle.ftp_tokio.specs.Outcomes.{conn_over, limit_of, no_watch};
 
 use crate::watch::Watch;
 use ftp_base::retry::{read_retrying, write_retrying};
@@ -42,6 +43,8 @@ pub struct TokioConn {
     // How many reads in a row haven't waited, and how many writes.
     reads: u8,
     writes: u8,
+    // The error that a wait of a read took from the socket, which tells it once. The next read fails with it.
+    read_error: Option<ErrorKind>,
     // How long a read may wait, and how long a write may.
     read_watch: Watch,
     write_watch: Watch,
@@ -55,6 +58,7 @@ impl Drop for TokioConn {
             write_waits: _,
             reads: _,
             writes: _,
+            read_error: _,
             read_watch,
             write_watch,
         } = self;
@@ -83,6 +87,7 @@ impl TokioConn {
             write_waits: false,
             reads: 0,
             writes: 0,
+            read_error: None,
             read_watch,
             write_watch,
         }
@@ -95,10 +100,11 @@ impl TokioConn {
         self.stream.as_ref()
     }
 
-    /// Reads what is there. An interrupted read is tried again, at most 64 times.
+    /// Reads what is there, or fails with the error that a wait has met. An interrupted read is tried again, at most 64 times.
     fn try_read(&mut self, buffer: &mut [u8]) -> Result<Poll<usize>, ErrorKind>
         ensures bound { ReadsAtMost result (length buffer.old) }
         ensures closed { self.old.stream ≡ None → result ≡ Err NotConnected }
+        ensures met { FailsAsMet self.old result }
         ensures other { self.new.write_waits ≡ self.old.write_waits }
         ensures turn { self.old.reads ≡ 32 → TakesTurns result 32 0 }
         ensures reads { self.new.reads ≡ self.old.reads }
@@ -106,6 +112,9 @@ impl TokioConn {
         let Some(stream) = &mut self.stream else {
             return Err(ErrorKind::NotConnected);
         };
+        if let Some(kind) = self.read_error.take() {
+            return Err(kind);
+        }
         if self.reads == IN_A_ROW {
             return Ok(Poll::Pending);
         }
@@ -120,6 +129,7 @@ impl TokioConn {
         ensures bound { WritesSome result (length bytes.now) }
         ensures closed { self.old.stream ≡ None → result ≡ Err NotConnected }
         ensures other { self.new.read_waits ≡ self.old.read_waits }
+        ensures met { self.new.read_error ≡ self.old.read_error }
         ensures turn { self.old.writes ≡ 32 → TakesTurns result 32 0 }
         ensures writes { self.new.writes ≡ self.old.writes }
     {
@@ -140,12 +150,13 @@ impl TokioConn {
     fn poll_reads(&mut self, cx: &mut Context<'_>) -> Waiting
         ensures registered { result ≡ waits.Registered →
             Covers cx.new (ReadNeeds self.new.stream self.new.read_waits) }
-        ensures rings { result ≡ waits.Registered → IsSome self.old.read_watch.limit →
+        ensures rings { result ≡ waits.Registered → IsSome (limit_of self.old.read_watch) →
             IsRung cx.new self.new.read_watch }
         ensures nothing { result ≡ waits.Nothing →
             (source : ℕ) → ReadNeeds self.new.stream self.new.read_waits source → ⊥ }
         ensures over { result ≡ waits.Over →
             (self.old.read_waits ≡ true) × (self.new.read_waits ≡ false) }
+        ensures met { IsSome self.old.read_error → IsSome self.new.read_error }
         ensures stream { self.new.stream ≡ self.old.stream }
         ensures other { self.new.write_waits ≡ self.old.write_waits }
         ensures kept { Keeps cx.old cx.new }
@@ -156,9 +167,12 @@ impl TokioConn {
         let Some(stream) = &mut self.stream else {
             return Waiting::Nothing;
         };
-        let waits = stream.poll_read_ready(cx).is_pending();
-        if waits && !self.read_watch.has_passed(cx) {
+        let readable = poll_readable(stream, cx);
+        if readable.is_pending() && !self.read_watch.has_passed(cx) {
             return Waiting::Registered;
+        }
+        if let Poll::Ready(Err(kind)) = readable {
+            self.read_error = Some(kind);
         }
         self.read_waits = false;
         Waiting::Over
@@ -168,12 +182,13 @@ impl TokioConn {
     fn poll_writes(&mut self, cx: &mut Context<'_>) -> Waiting
         ensures registered { result ≡ waits.Registered →
             Covers cx.new (WriteNeeds self.new.stream self.new.write_waits) }
-        ensures rings { result ≡ waits.Registered → IsSome self.old.write_watch.limit →
+        ensures rings { result ≡ waits.Registered → IsSome (limit_of self.old.write_watch) →
             IsRung cx.new self.new.write_watch }
         ensures nothing { result ≡ waits.Nothing →
             (source : ℕ) → WriteNeeds self.new.stream self.new.write_waits source → ⊥ }
         ensures over { result ≡ waits.Over →
             (self.old.write_waits ≡ true) × (self.new.write_waits ≡ false) }
+        ensures met { self.new.read_error ≡ self.old.read_error }
         ensures stream { self.new.stream ≡ self.old.stream }
         ensures other { self.new.read_waits ≡ self.old.read_waits }
         ensures kept { Keeps cx.old cx.new }
@@ -190,6 +205,29 @@ impl TokioConn {
         }
         self.write_waits = false;
         Waiting::Over
+    }
+}
+
+/// Waits until there is something to be read, or fails with the error that the socket tells.
+///
+/// The socket may be shown as ready by an event whose bytes were read before. A read of no bytes tells, and costs less than
+/// to poll the call once more.
+fn poll_readable(stream: &mut TcpStream, cx: &mut Context<'_>) -> Poll<Result<(), ErrorKind>>
+    ensures registered { result ≡ Pending → Covers cx.new (ReadNeeds (Some stream.new) true) }
+    ensures same { stream.new ≡ stream.old }
+    ensures kept { Keeps cx.old cx.new }
+{
+    if stream.poll_read_ready(cx).is_pending() {
+        return Poll::Pending;
+    }
+    let kind = match stream.try_read(&mut []) {
+        Ok(_) => return Poll::Ready(Ok(())),
+        Err(error) => error.kind(),
+    };
+    match kind {
+        ErrorKind::WouldBlock if stream.poll_read_ready(cx).is_pending() => Poll::Pending,
+        ErrorKind::WouldBlock | ErrorKind::Interrupted => Poll::Ready(Ok(())),
+        other => Poll::Ready(Err(other)),
     }
 }
 
@@ -254,6 +292,7 @@ impl Tells for TokioConn {
               write_waits = false;
               reads = 0;
               writes = 0;
+              read_error = None;
               read_watch = no_watch;
               write_watch = no_watch;
             } }
@@ -263,6 +302,7 @@ impl Tells for TokioConn {
         self.write_waits = false;
         self.reads = 0;
         self.writes = 0;
+        self.read_error = None;
         self.read_watch = Watch::none();
         self.write_watch = Watch::none();
         Ok(())
@@ -281,6 +321,7 @@ impl PollConn<()> for TokioConn {
         ensures remembered { Remembers result self.new.read_waits }
         ensures turns { TakesTurns result self.old.reads self.new.reads }
         ensures closed { self.old.stream ≡ None → result ≡ Err NotConnected }
+        ensures met { FailsAsMet self.old result }
         ensures other { self.new.write_waits ≡ self.old.write_waits }
     {
         let read = self.try_read(buffer);
@@ -297,6 +338,7 @@ impl PollConn<()> for TokioConn {
         ensures remembered { Remembers result self.new.write_waits }
         ensures turns { TakesTurns result self.old.writes self.new.writes }
         ensures closed { self.old.stream ≡ None → result ≡ Err NotConnected }
+        ensures met { self.new.read_error ≡ self.old.read_error }
         ensures other { self.new.read_waits ≡ self.old.read_waits }
     {
         let written = self.try_write(bytes);
@@ -317,6 +359,7 @@ impl TaskConn for TokioConn {
         ensures registered { result ≡ waits.Registered → Covers cx.new (ConnNeeds self.new) }
         ensures nothing { result ≡ waits.Nothing → (source : ℕ) → ConnNeeds self.new source → ⊥ }
         ensures over { result ≡ waits.Over → IsOverOn self.old self.new }
+        ensures met { IsSome self.old.read_error → IsSome self.new.read_error }
         ensures kept { Keeps cx.old cx.new }
     {
         let reads = self.poll_reads(cx);

@@ -36,7 +36,7 @@ impl Limits {
     ///
     /// # Errors
     /// `InvalidInput` where one is zero; where the clock can't be read; out of memory.
-    pub(crate) fn watched<R: Clock>(
+    pub(crate) fn watched<R: Clock + AllocGlobal>(
         &self,
         rt: &R,
         timers: Option<&Handle>,

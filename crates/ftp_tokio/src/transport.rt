@@ -5,7 +5,7 @@
 //! the task is woken at its end, by a timer of the runtime's; made with a reactor alone the transport has none, and then
 //! the task is polled again at once.
 
-ghost use Rattle.std.specs.Prelude.{◌≡◌, [], ℕ, IfOk, IfSome, None, Ok, Some, false, is_none, true};
+ghost use Rattle.std.specs.Prelude.{◌≡◌, [], ℕ, IfOk, IfSome, IsSomeAnd, None, Ok, Some, false, is_none, true};
 ghost use Rattle.futures.specs.Poll.{IfReady, OnPending};
 ghost use Rattle.futures.specs.Task.{Covers, Keeps};
 ghost use Rattle.ftp_transport.specs.Memory.{fresh_memory};
@@ -30,7 +30,8 @@ use tokio::reactor::Handle;
 use tokio::runtime::Handle as RuntimeHandle;
 use tokio::time::Handle as TimeHandle;
 
-/// The transport over tokio's sockets. Its runtime is one that has the network (`Net`) and the time (`Clock`).
+/// The transport over tokio's sockets. Its runtime is one that has the network (`Net`), the time (`Clock`) and memory
+/// (`AllocGlobal`).
 pub struct TokioTransport {
     reactor: Handle,
     timers: Option<TimeHandle>,
@@ -130,23 +131,29 @@ impl TokioTransport {
         ensures done { IfReady result (λ _. self.new.attempt ≡ None) }
         ensures limits { self.new.limits ≡ self.old.limits }
     {
-        let mut attempt = self.take_attempt(rt, address);
-        if let Some(outcome) = attempt.take_outcome() {
-            return Poll::Ready(outcome.map_err(fault));
-        }
+        self.begin_attempt(rt, address);
+        let Some(attempt) = &mut self.attempt else {
+            unreachable!();
+        };
         let shortest = limit.or(self.limits.connect);
-        match attempt.has_passed(rt, self.timers.as_ref(), shortest) {
-            Ok(false) => {
-                self.attempt = Some(attempt);
-                Poll::Pending
-            }
-            Ok(true) => Poll::Ready(Err(passed(limit))),
-            Err(error) => Poll::Ready(Err(fault(error))),
-        }
+        let outcome = match attempt.take_outcome() {
+            Some(outcome) => outcome.map_err(fault),
+            None => match attempt.has_passed(rt, self.timers.as_ref(), shortest) {
+                Ok(false) => return Poll::Pending,
+                Ok(true) => Err(passed(limit)),
+                Err(error) => Err(fault(error)),
+            },
+        };
+        self.attempt = None;
+        Poll::Ready(outcome)
     }
 
     /// A connection over this socket, with the limits of its reads and writes.
-    fn watched<R: Clock>(&self, rt: &R, stream: TcpStream) -> Result<TokioConn, ConnectionError>
+    fn watched<R: Clock + AllocGlobal>(
+        &self,
+        rt: &R,
+        stream: TcpStream,
+    ) -> Result<TokioConn, ConnectionError>
         ensures none { HasNoLimits self.now → result ≡ Ok (conn_over stream) }
         ensures stream { IfOk result (λ conn. conn.stream ≡ Some stream) }
     {
@@ -156,17 +163,19 @@ impl TokioTransport {
         }
     }
 
-    /// The connect to this address that is under way, or a new one. One to another address is dropped.
-    fn take_attempt(&mut self, net: &impl Net, address: SocketAddr) -> Attempt
-        ensures address { result.address ≡ address }
+    /// Begins to connect to this address, unless a connect to it is under way. One to another address is dropped.
+    fn begin_attempt(&mut self, net: &impl Net, address: SocketAddr)
+        ensures address { IsSomeAnd self.new.attempt (λ attempt. attempt.address ≡ address) }
         ensures kept { (outcome : _) → CameTo self.old.attempt address outcome →
-            result.outcome ≡ Some outcome }
-        ensures taken { self.new.attempt ≡ None }
+            CameTo self.new.attempt address outcome }
         ensures limits { self.new.limits ≡ self.old.limits }
     {
-        match self.attempt.take() {
-            Some(attempt) if attempt.is_to(address) => attempt,
-            _ => Attempt::begin(net, address, &self.reactor),
+        let is_begun = match &self.attempt {
+            Some(attempt) => attempt.is_to(address),
+            None => false,
+        };
+        if !is_begun {
+            self.attempt = Some(Attempt::begin(net, address, &self.reactor));
         }
     }
 }
@@ -205,7 +214,7 @@ impl Network for TokioTransport {
     fn closed(&mut self, _conn: TokioConn) {}
 }
 
-impl<R: Net + Clock> PollTransport<R, ()> for TokioTransport {
+impl<R: Net + Clock + AllocGlobal> PollTransport<R, ()> for TokioTransport {
     ghost may_wait = { Unit {0} };
 
     fn poll_connect(

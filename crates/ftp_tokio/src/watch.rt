@@ -7,8 +7,8 @@
 
 ghost use Rattle.std.specs.Prelude.{◌≡◌, IsSome, None, Ok, false, true};
 ghost use Rattle.futures.specs.Task.{Keeps};
-ghost use Rattle.ftp_tokio.specs.Needs.{IsRung, IsRungBy};
-ghost use Rattle.ftp_tokio.specs.Outcomes.{no_watch};
+ghost use Rattle.ftp_tokio.specs.Needs.{IsRung, IsRungBy, IsTimed};
+ghost use Rattle.ftp_tokio.specs.Outcomes.{is_late, limit_of, no_watch};
 
 use futures::task::{Context, Poll};
 use std::io;
@@ -46,10 +46,10 @@ impl Limit {
     }
 }
 
-/// The limit of the waits in one direction, if there is one, and how far it has run in the wait that lasts.
+/// A limit, and how far it has run in the wait that lasts.
 #[derive(Drop)]
-pub(crate) struct Watch {
-    limit: Option<Limit>,
+pub(crate) struct Timing {
+    limit: Limit,
     // Ticks at the event loop's turn after the wait began.
     turn: Option<Interval>,
     // Ticks at the limit's end.
@@ -57,24 +57,58 @@ pub(crate) struct Watch {
     late: bool,
 }
 
+impl Timing {
+    /// Nothing waits any more: the next wait has the whole limit.
+    fn end(&mut self)
+        ensures limit { self.new.limit ≡ self.old.limit }
+        ensures late { self.new.late ≡ false }
+    {
+        self.turn = None;
+        self.end = None;
+        self.late = false;
+    }
+
+    /// Whether the wait has lasted longer than the limit.
+    fn has_passed(&mut self, cx: &mut Context<'_>) -> bool
+        ensures late { result ≡ true → self.new.late ≡ true }
+        ensures limit { self.new.limit ≡ self.old.limit }
+        ensures rings { result ≡ false → IsTimed cx.new self.new }
+        ensures kept { Keeps cx.old cx.new }
+    {
+        if self.end.is_none() {
+            if self.turn.is_none() {
+                self.turn = self.limit.begin(Duration::from_millis(TURN), cx);
+            }
+            if !has_ticked(&mut self.turn, cx) {
+                return false;
+            }
+            self.end = self.limit.begin(self.limit.period, cx);
+        }
+        self.late = has_ticked(&mut self.end, cx);
+        self.late
+    }
+}
+
+/// The limit of the waits in one direction, if there is one. It is in memory of its own, so that a connection that moves
+/// moves little.
+#[derive(Drop)]
+pub(crate) struct Watch {
+    timing: Option<Box<Timing>>,
+}
+
 impl Watch {
     /// No limit.
     pub(crate) fn none() -> Watch
         ensures { result ≡ no_watch }
     {
-        Watch {
-            limit: None,
-            turn: None,
-            end: None,
-            late: false,
-        }
+        Watch { timing: None }
     }
 
     /// This limit, where there is one.
     ///
     /// # Errors
     /// `InvalidInput` where it is zero, or where there are no timers; where the clock can't be read; out of memory.
-    pub(crate) fn new<R: Clock>(
+    pub(crate) fn new<R: Clock + AllocGlobal>(
         rt: &R,
         timers: Option<&Handle>,
         limit: Option<Duration>,
@@ -96,54 +130,50 @@ impl Watch {
             past: now.checked_sub(Duration::from_secs(LONG)).unwrap_or(now),
             period,
         };
-        Ok(Watch {
-            limit: Some(limit),
+        let timing = Timing {
+            limit,
             turn: None,
             end: None,
             late: false,
+        };
+        Ok(Watch {
+            timing: Some(Box::new(rt.alloc(), timing)?),
         })
     }
 
     /// Whether the wait was found to last longer than the limit.
     pub(crate) fn is_late(&self) -> bool
-        ensures { result ≡ self.now.late }
+        ensures { result ≡ is_late self.now }
     {
-        self.late
+        match &self.timing {
+            Some(timing) => timing.late,
+            None => false,
+        }
     }
 
     /// Nothing waits any more: the next wait has the whole limit.
     pub(crate) fn end(&mut self)
-        ensures limit { self.new.limit ≡ self.old.limit }
-        ensures late { self.new.late ≡ false }
+        ensures limit { limit_of self.new ≡ limit_of self.old }
+        ensures late { is_late self.new ≡ false }
     {
-        self.turn = None;
-        self.end = None;
-        self.late = false;
+        if let Some(timing) = &mut self.timing {
+            timing.end();
+        }
     }
 
     /// Whether the wait has lasted longer than the limit. Where it hasn't, the task is woken at the limit's end, or polled
     /// again at once where there is no memory for a timer.
     pub(crate) fn has_passed(&mut self, cx: &mut Context<'_>) -> bool
-        ensures none { self.old.limit ≡ None → result ≡ false }
-        ensures late { result ≡ true → self.new.late ≡ true }
-        ensures limit { self.new.limit ≡ self.old.limit }
-        ensures rings { result ≡ false → IsSome self.old.limit → IsRung cx.new self.new }
+        ensures none { limit_of self.old ≡ None → result ≡ false }
+        ensures late { result ≡ true → is_late self.new ≡ true }
+        ensures limit { limit_of self.new ≡ limit_of self.old }
+        ensures rings { result ≡ false → IsSome (limit_of self.old) → IsRung cx.new self.new }
         ensures kept { Keeps cx.old cx.new }
     {
-        let Some(limit) = &self.limit else {
-            return false;
-        };
-        if self.end.is_none() {
-            if self.turn.is_none() {
-                self.turn = limit.begin(Duration::from_millis(TURN), cx);
-            }
-            if !has_ticked(&mut self.turn, cx) {
-                return false;
-            }
-            self.end = limit.begin(limit.period, cx);
+        match &mut self.timing {
+            Some(timing) => timing.has_passed(cx),
+            None => false,
         }
-        self.late = has_ticked(&mut self.end, cx);
-        self.late
     }
 }
 

@@ -53,6 +53,42 @@ impl Future for ReadByte {
     }
 }
 
+/// Reads a byte at a time until a read waits, looks what it waits for, and reads once more: how many came, whether the wait
+/// is over, and what the last read made.
+#[derive(Drop)]
+pub struct ReadPastTurn {
+    conn: TokioConn,
+}
+
+impl ReadPastTurn {
+    /// Such reads.
+    pub fn new(conn: TokioConn) -> ReadPastTurn {
+        ReadPastTurn { conn }
+    }
+}
+
+impl Future for ReadPastTurn {
+    type Output = (u8, bool, Result<Poll<usize>, ErrorKind>);
+
+    fn poll(&mut self, cx: &mut Context<'_>) -> Poll<(u8, bool, Result<Poll<usize>, ErrorKind>)> {
+        let count = reads_in_a_row(&mut self.conn);
+        let is_over = self.conn.poll_ready(cx) == Waiting::Over;
+        let last = self.conn.poll_read(&mut (), &mut [0u8; 1]);
+        Poll::Ready((count, is_over, last))
+    }
+}
+
+/// How many reads of one byte go on until one waits, of 40 at most.
+pub fn reads_in_a_row(conn: &mut TokioConn) -> u8 {
+    let mut byte = [0u8; 1];
+    for count in 0..40 {
+        if conn.poll_read(&mut (), &mut byte) != Ok(Poll::Ready(1)) {
+            return count;
+        }
+    }
+    40
+}
+
 /// Writes until one has waited, and one byte after that. Its peer reads once the task is registered, and not before.
 #[derive(Drop)]
 pub struct WriteOn {

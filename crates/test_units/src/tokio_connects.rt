@@ -96,7 +96,7 @@ fn a_connect_that_nobody_answers_ends_with_its_limit(rt: HostRuntime) -> Result<
 }
 
 /// A listener of this transport on the loopback address, and its address.
-fn listen<R: Net + Clock>(
+fn listen<R: Net + Clock + AllocGlobal>(
     rt: &R,
     transport: &mut TokioTransport,
 ) -> io::Result<(TokioListener, SocketAddr)> {

@@ -18,7 +18,7 @@ pub struct Connect<'a, R> {
     pub limit: Option<Duration>,
 }
 
-impl<R: Net + Clock> Future for Connect<'_, R> {
+impl<R: Net + Clock + AllocGlobal> Future for Connect<'_, R> {
     type Output = Result<TokioConn, ConnectionError>;
 
     fn poll(&mut self, cx: &mut Context<'_>) -> Poll<Result<TokioConn, ConnectionError>> {
@@ -48,7 +48,7 @@ pub struct Accept<'a, R> {
     pub deadline: Duration,
 }
 
-impl<R: Net + Clock> Future for Accept<'_, R> {
+impl<R: Net + Clock + AllocGlobal> Future for Accept<'_, R> {
     type Output = Result<SocketAddr, ConnectionError>;
 
     fn poll(&mut self, cx: &mut Context<'_>) -> Poll<Result<SocketAddr, ConnectionError>> {

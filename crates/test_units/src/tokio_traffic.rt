@@ -1,6 +1,6 @@
 //! Reads and writes of connections over tokio's sockets.
 
-use crate::tokio_calls::{ReadByte, WriteOn};
+use crate::tokio_calls::{ReadByte, ReadPastTurn, WriteOn, reads_in_a_row};
 use ftp_tokio::TokioConn;
 use ftp_transport::{PollConn, Tells};
 use futures::task::Poll;
@@ -19,17 +19,6 @@ fn a_read_and_a_write_that_wait_go_on(rt: HostRuntime) -> Result<(), Fail> {
     drop(runtime);
     assert_eq!(rt; (read, written), (Ok((1, b'x')), Ok(1)));
     Ok(())
-}
-
-/// How many reads of one byte go on until one waits, of 40 at most.
-fn reads_in_a_row(conn: &mut TokioConn) -> u8 {
-    let mut byte = [0u8; 1];
-    for count in 0..40 {
-        if conn.poll_read(&mut (), &mut byte) != Ok(Poll::Ready(1)) {
-            return count;
-        }
-    }
-    40
 }
 
 /// How many writes of one byte go on until one waits, of 40 at most.
@@ -108,5 +97,19 @@ fn a_reset_is_an_error_and_no_end_of_data(rt: HostRuntime) -> Result<(), Fail> {
     drop(runtime);
     let reset = Err(ErrorKind::ConnectionReset);
     assert_eq!(rt; (written, read), (Ok(Poll::Ready(6)), reset));
+    Ok(())
+}
+
+// a socket tells a reset once, to whoever asks first
+#[test]
+fn a_reset_that_a_wait_meets_is_the_error_of_the_next_read(rt: HostRuntime) -> Result<(), Fail> {
+    let mut runtime = running(&rt)?;
+    let (mut conn, peer) = pair(&rt, &runtime, &[b'x'; 32])?;
+    let written = conn.poll_write(&mut (), b"unread");
+    drop(peer);
+    let came = runtime.local().block_on(&rt, ReadPastTurn::new(conn))?;
+    drop(runtime);
+    let reset = Err(ErrorKind::ConnectionReset);
+    assert_eq!(rt; (written, came), (Ok(Poll::Ready(6)), (32, true, reset)));
     Ok(())
 }
