@@ -12,7 +12,7 @@ use Rattle.ftp_base.specs.FileType.{type_text}
 use Rattle.ftp_base.specs.declared.command.ProtectionLevel.{ProtectionLevel}
 use Rattle.ftp_base.specs.declared.command.ProtectionLevel.TheVariants.{Clear, Private}
 use Rattle.ftp_base.specs.declared.command.Command.{Command}
-use Rattle.ftp_base.specs.declared.command.Command.TheVariants.{Abor, Appe, Auth, Cdup, ClearCommandChannel, Cwd, Dele, Eprt, Epsv, Feat, List as Listing, Mdtm, Mkd, Mlsd, Mlst, Nlst, Noop, Opts, Pass, Pasv, Pbsz, Port, Prot, Pwd, Quit, RenameFrom, RenameTo, Rest, Retr, Rmd, Site, Size, Store, TransferType, User, Custom}
+use Rattle.ftp_base.specs.declared.command.Command.TheVariants.{Abor, Appe, Auth, Cdup, ClearCommandChannel, Cwd, Dele, Eprt, Epsv, Feat, List as Listing, Mdtm, Mfmt, Mkd, Mlsd, Mlst, Nlst, Noop, Opts, Pass, Pasv, Pbsz, Port, Prot, Pwd, Quit, RenameFrom, RenameTo, Rest, Retr, Rmd, Site, Size, Store, TransferType, User, Custom}
 
 -- a space and a text, or nothing where there is none
 abbrev pub after_space : Option (List ℕ) → List ℕ
@@ -49,6 +49,7 @@ words_of Epsv = codes "EPSV"
 words_of Feat = codes "FEAT"
 words_of (Listing path) = codes "LIST" ++ after_space path
 words_of (Mdtm path) = codes "MDTM " ++ path
+words_of (Mfmt time path) = codes "MFMT " ++ time ++ codes " " ++ path
 words_of (Mkd path) = codes "MKD " ++ path
 words_of (Mlsd path) = codes "MLSD" ++ after_space path
 words_of (Mlst path) = codes "MLST" ++ after_space path

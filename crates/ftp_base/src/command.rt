@@ -48,6 +48,8 @@ pub enum Command {
     List(Option<Text>),
     /// `MDTM`: asks when this file was changed.
     Mdtm(Text),
+    /// `MFMT`: when a file was changed, as fourteen digits of UTC, is set; the time, and then the file.
+    Mfmt(Text, Text),
     /// `MKD`: makes this directory.
     Mkd(Text),
     /// `MLSD`: lists this directory, or the present one, for machines.
@@ -125,6 +127,7 @@ impl fmt::Display for Command {
             Command::Feat => f.write_str("FEAT\r\n"),
             Command::List(path) => write!(f, "LIST{}\r\n", AfterSpace(path)),
             Command::Mdtm(path) => write!(f, "MDTM {path}\r\n"),
+            Command::Mfmt(time, path) => write!(f, "MFMT {time} {path}\r\n"),
             Command::Mkd(path) => write!(f, "MKD {path}\r\n"),
             Command::Mlsd(path) => write!(f, "MLSD{}\r\n", AfterSpace(path)),
             Command::Mlst(path) => write!(f, "MLST{}\r\n", AfterSpace(path)),

@@ -10,6 +10,7 @@ use ftp_base::encoding::Encoding;
 use ftp_base::status::Status;
 use ftp_base::types::{FileType, FtpResult, Response};
 use ftp_transport::{Conn, Network};
+use jiff::civil::DateTime;
 use std::net::SocketAddr;
 use std::sync::Wait;
 
@@ -158,6 +159,20 @@ where
     /// Those of a command and its reply.
     pub fn rename<R: Wait + AllocGlobal>(&self, rt: &R, from: &str, to: &str) -> FtpResult<()> {
         self.session.lock(rt).rename(rt.alloc(), from, to)
+    }
+
+    /// Sets when a file was last changed, in UTC: `MFMT` (213; draft-somers-ftp-mfxx-04, section 3), where `feat` names it. The
+    /// fraction of a second isn't sent; a year before 0 goes out with its sign, and a server refuses it.
+    ///
+    /// # Errors
+    /// Those of a command and its reply.
+    pub fn set_modified<R: Wait + AllocGlobal>(
+        &self,
+        rt: &R,
+        path: &str,
+        moment: DateTime,
+    ) -> FtpResult<()> {
+        self.session.lock(rt).set_modified(rt.alloc(), path, moment)
     }
 
     /// Ends the session: `QUIT` (221; RFC 959, section 4.1.1).

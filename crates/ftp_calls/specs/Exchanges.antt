@@ -1,6 +1,6 @@
 -- What each call says and hears, one row an exchange: RFC 959, sections 4.1, 5.4 and 6; RFC 2389, sections
 -- 3 (FEAT) and 4 (OPTS); RFC 2428, sections 2 (EPRT) and 3 (EPSV); RFC 3659, sections 3 (MDTM), 4 (SIZE), 5 (REST) and 7
--- (MLST). All that a call does follows from its rows.
+-- (MLST); draft-somers-ftp-mfxx-04, section 3 (MFMT). All that a call does follows from its rows.
 use Rattle.std.specs.Prelude.{◌≡◌, refl, Bool, true, false, not, ◌&&◌, ◌||◌, nat_lt, ℕ, if◌then◌else◌, List, [], ◌∷◌, Option, Some, None, is_none, option_map}
 use Rattle.ftp_base.specs.declared.status.Status.{Status}
 use Rattle.ftp_base.specs.declared.status.Status.TheVariants.{AlreadyOpen, AboutToSend, CommandOk, System, File, Ready, Closing, ClosingDataConnection, TransferAborted, PassiveMode, ExtendedPassiveMode, LoggedIn, RequestedFileActionOk, PathCreated, NeedPassword, RequestFilePending, BadCommand, BadArguments, NotImplemented, NotImplementedParameter, Unknown}
@@ -9,7 +9,7 @@ use Rattle.ftp_base.specs.declared.types.file_type.FileType.TheVariants.{Ascii, 
 use Rattle.ftp_base.specs.declared.command.Command.{Command}
 use Rattle.ftp_base.specs.declared.command.Command.TheVariants as command
 use Rattle.ftp_calls.specs.declared.call.Call.{Call}
-use Rattle.ftp_calls.specs.declared.call.Call.TheVariants.{Greet, Login, Cwd, Cdup, Pwd, Noop, Resync, Eprt, Opts, Site, TransferType, Mkdir, Rmdir, Rm, Rename, Quit, Mlst, Mdtm, Size, Feat, CustomCommand, ReadResponse, ReadResponseIn, ResumeTransfer, RetrAsStream, PutWithStream, AppendWithStream, CustomDataCommand, Retr, List as Listing, Nlst, Mlsd, PutFile, AppendFile, Set, Read, Write, Finish, Abort, Leave, Drain}
+use Rattle.ftp_calls.specs.declared.call.Call.TheVariants.{Greet, Login, Cwd, Cdup, Pwd, Noop, Resync, Eprt, Opts, Site, TransferType, Mkdir, Rmdir, Rm, Rename, Quit, Mlst, Mdtm, SetModified, Size, Feat, CustomCommand, ReadResponse, ReadResponseIn, ResumeTransfer, RetrAsStream, PutWithStream, AppendWithStream, CustomDataCommand, Retr, List as Listing, Nlst, Mlsd, PutFile, AppendFile, Set, Read, Write, Finish, Abort, Leave, Drain}
 use Rattle.ftp_calls.specs.declared.call.BorrowedCall.{BorrowedCall}
 use Rattle.ftp_calls.specs.declared.call.BorrowedCall.TheVariants as borrowed
 use Rattle.ftp_calls.specs.declared.exchange.Turn.{Turn}
@@ -26,6 +26,7 @@ use Rattle.ftp_calls.specs.declared.exchange.Row.{Row}
 use Rattle.ftp_calls.specs.declared.exchange.Row.TheVariants.{Exchanges, Arms, Resyncs, Sets, Moves}
 use Rattle.ftp_calls.specs.declared.exchange.Movement.TheVariants as movement
 use Rattle.ftp_calls.specs.Active.{port_command}
+use Rattle.ftp_calls.specs.Times.{time_value}
 
 -- the call that a method's arguments make
 abbrev pub call_of : BorrowedCall → Call
@@ -46,6 +47,7 @@ call_of (borrowed.Rename one other) = Rename one.now other.now
 call_of borrowed.Quit = Quit
 call_of (borrowed.Mlst path) = Mlst (option_map (λ text. text.now) path)
 call_of (borrowed.Mdtm path) = Mdtm path.now
+call_of (borrowed.SetModified path moment) = SetModified (time_value moment.now) path.now
 call_of (borrowed.Size path) = Size path.now
 call_of borrowed.Feat = Feat
 call_of (borrowed.CustomCommand line codes) = CustomCommand line.now codes.now
@@ -142,6 +144,7 @@ own (Rename one other) = Twice (command.RenameFrom one) (One RequestFilePending)
 own Quit = Once (says command.Quit (One Closing) Done) refl
 own (Mlst path) = Once (says (command.Mlst path) (One RequestedFileActionOk) GivesSecondLine) refl
 own (Mdtm path) = Once (says (command.Mdtm path) (One File) GivesTime) refl
+own (SetModified time path) = Once (says (command.Mfmt time path) (One File) Done) refl
 own (Size path) = Once (says (command.Size path) (One File) GivesSize) refl
 own Feat = Once (says command.Feat Features GivesFeatures) refl
 own (CustomCommand line codes) = Once (says (command.Custom line) (Given codes) GivesReply) refl

@@ -1,9 +1,10 @@
--- The time in a reply to MDTM: RFC 3659, sections 2.3 and 3.
-use Rattle.std.specs.Prelude.{ℕ, zero, suc, ◌+◌, ◌-◌, Bool, ◌&&◌, ◌==◌, not, nat_lt, if◌then◌else◌, List, [], ◌∷◌, ◌++◌, length, take, drop, slice_index, find, Option, None}
+-- The time in a reply to MDTM, and the text of one that is sent: RFC 3659, sections 2.3 and 3.
+use Rattle.std.specs.Prelude.{ℕ, zero, suc, ◌+◌, ◌-◌, ◌/◌, ◌%◌, ℤ, pos, negsuc, Bool, ◌&&◌, ◌==◌, not, nat_lt, if◌then◌else◌, List, [], ◌∷◌, ◌++◌, length, take, drop, slice_index, find, Option, None}
 use Rattle.std.specs.List.{list_all}
 use Rattle.std.specs.Option.{option_map, option_and_then}
 use Rattle.std.specs.Char.{is_ascii_digit}
 use Rattle.std.specs.Str.{is_utf8}
+use Rattle.std.specs.Fmt.{decimal, signed_decimal}
 use Rattle.ftp_base.specs.Scan.{is_word_byte, digits_value}
 use Rattle.jiff_core.specs.declared.civil.datetime.DateTime.{DateTime}
 use Rattle.ftp_calls.specs.Dates.{date_of, time_of_day, date_time}
@@ -44,3 +45,22 @@ time_in digits =
 -- the time in a reply, which is UTF-8
 abbrev pub time_of : List ℕ → Option DateTime
 time_of body = if is_utf8 body then option_and_then time_in (timestamp body) else None
+
+-- a number below 100 in two digits
+abbrev pub two_digits : ℕ → List ℕ
+two_digits n = decimal (n / 10) ++ decimal (n % 10)
+
+-- a year in four digits; one before 0 has no such text, and stands there with its sign
+abbrev pub year_text : ℤ → List ℕ
+year_text (pos n) = two_digits (n / 100) ++ two_digits (n % 100)
+year_text (negsuc n) = signed_decimal (negsuc n)
+
+-- a date and time as a command writes it, without a fraction of a second
+abbrev pub date_digits : DateTime → List ℕ
+date_digits moment = year_text moment.date.year ++ two_digits moment.date.month ++ two_digits moment.date.day
+
+abbrev pub time_digits : DateTime → List ℕ
+time_digits moment = two_digits moment.time.hour ++ two_digits moment.time.minute ++ two_digits moment.time.second
+
+abbrev pub time_value : DateTime → List ℕ
+time_value moment = date_digits moment ++ time_digits moment

@@ -16,6 +16,7 @@ use crate::row::{
     custom, done_or_ok, ended, ended_alone, fetched, hears, last_reply, login, ok, ok_or_done,
     rename, says, sent, stored, stored_whole, transfer_type,
 };
+use crate::time_value::time_value;
 use ftp_base::command::Command;
 use ftp_base::status::Status;
 use ftp_base::types::{
@@ -80,6 +81,8 @@ pub enum Call {
     Mlst(Option<Text>),
     /// `MDTM` (213).
     Mdtm(Text),
+    /// `MFMT` (213): when a file was changed is set, to this time of fourteen digits; the time, and then the file.
+    SetModified(Text, Text),
     /// `SIZE` (213).
     Size(Text),
     /// `FEAT` (211), whose reply a list of features may follow.
@@ -174,6 +177,14 @@ pub(crate) fn own_row(call: &Call, first: bool) -> Result<Row, AllocError>
             let codes = Codes::One(Status::File);
             Ok(says(Command::Mdtm(path.clone()?), codes, Ending::GivesTime))
         }
+        Call::SetModified(time, path) => {
+            let (time, path) = (time.clone()?, path.clone()?);
+            Ok(says(
+                Command::Mfmt(time, path),
+                Codes::One(Status::File),
+                Ending::Done,
+            ))
+        }
         Call::Size(path) => {
             let codes = Codes::One(Status::File);
             Ok(says(Command::Size(path.clone()?), codes, Ending::GivesSize))
@@ -255,6 +266,8 @@ pub enum BorrowedCall<'a> {
     Mlst(Option<&'a str>),
     /// `MDTM`.
     Mdtm(&'a str),
+    /// `MFMT`, of a file and a date and time.
+    SetModified(&'a str, &'a DateTime),
     /// `SIZE`.
     Size(&'a str),
     /// `FEAT`.
@@ -316,6 +329,9 @@ impl BorrowedCall<'_> {
             BorrowedCall::Quit => Call::Quit,
             BorrowedCall::Mlst(path) => Call::Mlst(optional(alloc, path)?),
             BorrowedCall::Mdtm(path) => Call::Mdtm(text(alloc, path)?),
+            BorrowedCall::SetModified(path, moment) => {
+                Call::SetModified(time_value(alloc, *moment)?, text(alloc, path)?)
+            }
             BorrowedCall::Size(path) => Call::Size(text(alloc, path)?),
             BorrowedCall::Feat => Call::Feat,
             BorrowedCall::CustomCommand(line, codes) => {

@@ -10,3 +10,4 @@ pub mod call;
 pub mod exchange;
 pub mod lines;
 mod row;
+mod time_value;

@@ -177,6 +177,20 @@ where
         self.dialogue(rt, BorrowedCall::Rename(from, to))
     }
 
+    /// Sets when a file was last changed, in UTC: `MFMT` (213; draft-somers-ftp-mfxx-04, section 3), where `feat` names it. The
+    /// fraction of a second isn't sent; a year before 0 goes out with its sign, and a server refuses it.
+    ///
+    /// # Errors
+    /// Those of a command and its reply.
+    pub fn set_modified<'r, R: AllocGlobal>(
+        &self,
+        rt: &'r R,
+        path: &str,
+        moment: DateTime,
+    ) -> Dialogue<'r, R, Tr, K, E, B, ()> {
+        self.dialogue(rt, BorrowedCall::SetModified(path, &moment))
+    }
+
     /// Ends the session: `QUIT` (221).
     ///
     /// # Errors

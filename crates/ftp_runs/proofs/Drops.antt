@@ -1,7 +1,7 @@
 -- Lemmas on calls that are dropped.
 use Rattle.std.proofs.Common.{◌≡◌, ◌&&◌, ◌||◌, not, Bool, true, false, Option, Some, None, inl, inr, refl, ap}
 use Rattle.ftp_calls.specs.declared.call.Call.{Call}
-use Rattle.ftp_calls.specs.declared.call.Call.TheVariants.{Greet, Login, Cwd, Cdup, Pwd, Noop, Resync, Eprt, Opts, Site, TransferType, Mkdir, Rmdir, Rm, Rename, Quit, Mlst, Mdtm, Size, Feat, CustomCommand, ReadResponse, ReadResponseIn, ResumeTransfer, RetrAsStream, PutWithStream, AppendWithStream, CustomDataCommand, Retr, List as Listing, Nlst, Mlsd, PutFile, AppendFile, Set, Read, Write, Finish, Abort, Leave, Drain}
+use Rattle.ftp_calls.specs.declared.call.Call.TheVariants.{Greet, Login, Cwd, Cdup, Pwd, Noop, Resync, Eprt, Opts, Site, TransferType, Mkdir, Rmdir, Rm, Rename, Quit, Mlst, Mdtm, SetModified, Size, Feat, CustomCommand, ReadResponse, ReadResponseIn, ResumeTransfer, RetrAsStream, PutWithStream, AppendWithStream, CustomDataCommand, Retr, List as Listing, Nlst, Mlsd, PutFile, AppendFile, Set, Read, Write, Finish, Abort, Leave, Drain}
 use Rattle.ftp_calls.specs.Exchanges.{aborts, finishes, is_read}
 use Rattle.ftp_runs.specs.Script.{drops_begun, MayCancel}
 
@@ -25,6 +25,7 @@ finish_is (Rename one two) ends on = let clash : false ≡ true = ends in cc
 finish_is Quit ends on = let clash : false ≡ true = ends in cc
 finish_is (Mlst one) ends on = let clash : false ≡ true = ends in cc
 finish_is (Mdtm one) ends on = let clash : false ≡ true = ends in cc
+finish_is (SetModified one two) ends on = let clash : false ≡ true = ends in cc
 finish_is (Size one) ends on = let clash : false ≡ true = ends in cc
 finish_is Feat ends on = let clash : false ≡ true = ends in cc
 finish_is (CustomCommand one two) ends on = let clash : false ≡ true = ends in cc

@@ -46,6 +46,11 @@ fn bare(name: &str) -> Option<Command> {
 fn with_argument(alloc: Global, name: &str, argument: &str) -> Result<Command, RowError> {
     match name {
         "eprt" => Ok(Command::Eprt(value(argument)?)),
+        "mfmt" => {
+            let (time, path) = pair(argument, " ")?;
+            let time = text(alloc, time)?;
+            Ok(Command::Mfmt(time, text(alloc, path)?))
+        }
         "opts" => options(alloc, argument),
         "pbsz" => Ok(Command::Pbsz(value(argument)?)),
         "prot" => Ok(Command::Prot(level(argument)?)),

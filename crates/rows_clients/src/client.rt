@@ -7,8 +7,8 @@ use ftp_transfer::mark::Left;
 use ftp_transport::MemoryTransport;
 use rows_plays::{
     Held, Named, Opening, Play, RowBuilder, RowState, Transfers, boxed, bytes, count, counted,
-    features, greeted, had, lines, made_by_method, optional, recorded, reply, size, text, texts_of,
-    time, unit,
+    features, greeted, had, lines, made_by_method, moment, optional, recorded, reply, size, text,
+    texts_of, time, unit,
 };
 use rows_text::RowError;
 use std::alloc::{AllocError, Global};

@@ -13,7 +13,7 @@ use futures::Future;
 use futures::executor::block_on;
 use futures::task::{Context, Poll};
 use rows_plays::{
-    Held, Opening, Play, RowState, Transfers, boxed, counted, greeted, had, made_by_method,
+    Held, Opening, Play, RowState, Transfers, boxed, counted, greeted, had, made_by_method, moment,
     optional, recorded, texts_of,
 };
 use rows_text::RowError;

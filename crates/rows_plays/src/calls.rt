@@ -3,13 +3,16 @@
 use crate::settings::setting;
 use ftp_base::status::Status;
 use ftp_base::types::{Items, Text};
+use ftp_calls::answers::read_time;
 use ftp_session::session::Call;
+use jiff::civil::DateTime;
 use rows_text::{RowError, bytes_of, file_type, pair, text, value};
 use std::alloc::Global;
 
 /// The answer of a call, by the method of that name: of a session, with its allocator, or of a client, with its runtime.
 ///
-/// Where it is used `unit`, `reply`, `text`, `time`, `size` and `features` make the answer of what the method returned; they
+/// Where it is used `unit`, `reply`, `text`, `time`, `size` and `features` make the answer of what the method returned, and
+/// `moment` the time of fourteen digits; they
 /// are handed what stands in the brackets before it, as the runtime that polls a future. Calls that are no commands are the
 /// arms that are handed in.
 #[macro_export]
@@ -41,6 +44,10 @@ macro_rules! made_by_method {
             Call::Pwd => text($($rt,)? $target.pwd($memory)),
             Call::Mlst(path) => text($($rt,)? $target.mlst($memory, optional(path))),
             Call::Mdtm(path) => time($($rt,)? $target.mdtm($memory, path.as_str())),
+            Call::SetModified(time, path) => {
+                let time = moment(time.as_str())?;
+                unit($($rt,)? $target.set_modified($memory, path.as_str(), time))
+            }
             Call::Size(path) => size($($rt,)? $target.size($memory, path.as_str())),
             Call::Feat => features($($rt,)? $target.feat($memory)),
             Call::ResumeTransfer(offset) => {
@@ -99,7 +106,7 @@ fn with_argument(alloc: Global, name: &str, argument: &str) -> Result<Call, RowE
         "opts" => opts(alloc, argument),
         "read" => Ok(Call::ReadResponse(status(argument)?)),
         "reads" => Ok(Call::ReadResponseIn(statuses(alloc, argument)?)),
-        "login" | "rename" | "custom" => with_two(alloc, name, argument),
+        "login" | "rename" | "custom" | "set_modified" => with_two(alloc, name, argument),
         "put_file" | "append_file" => file(alloc, name, argument),
         _ => with_text(name, text(alloc, argument)?),
     }
@@ -134,6 +141,7 @@ fn with_two(alloc: Global, name: &str, arguments: &str) -> Result<Call, RowError
     match name {
         "login" => Ok(Call::Login(text(alloc, first)?, second)),
         "rename" => Ok(Call::Rename(text(alloc, first)?, second)),
+        "set_modified" => Ok(Call::SetModified(text(alloc, first)?, second)),
         "custom" => Ok(Call::CustomCommand(second, statuses(alloc, first)?)),
         _ => Err(RowError::NotUnderstood),
     }
@@ -168,6 +176,11 @@ fn opts(alloc: Global, words: &str) -> Result<Call, RowError> {
         Some((option, set)) => Ok(Call::Opts(text(alloc, option)?, Some(text(alloc, set)?))),
         None => Ok(Call::Opts(text(alloc, words)?, None)),
     }
+}
+
+/// The date and time that fourteen digits write.
+pub fn moment(digits: &str) -> Result<DateTime, RowError> {
+    read_time(digits.as_bytes()).ok_or(RowError::NotUnderstood)
 }
 
 /// The status of a code.

@@ -28,7 +28,7 @@ pub use answers::{
 };
 pub use builder::RowBuilder;
 pub use bytewise::ran_bytewise;
-pub use calls::call;
+pub use calls::{call, moment};
 pub use encodings::Named;
 pub use memory::{boxed, had};
 pub use methods::{Live, Opening, called, greeted, make, optional};

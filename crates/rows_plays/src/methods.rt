@@ -1,6 +1,7 @@
 //! The calls of a session, one after another.
 
 use crate::answers::{bytes, count, features, lines, reply, size, text, time, unit};
+use crate::calls::moment;
 use crate::dial::Dial;
 use crate::made_by_method;
 use crate::memory::boxed;

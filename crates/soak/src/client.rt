@@ -11,8 +11,8 @@ use ftp_base::types::{FtpResult, Mode};
 use ftp_blocking::FtpStream;
 use ftp_session::session::{Answer, Call};
 use rows_plays::{
-    bytes, call, count, features, lines, made_by_method, optional, reply, size, text, text_of,
-    time, unit,
+    bytes, call, count, features, lines, made_by_method, moment, optional, reply, size, text,
+    text_of, time, unit,
 };
 use rows_text::RowError;
 use std::io::Write;

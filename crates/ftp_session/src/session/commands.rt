@@ -10,6 +10,7 @@ ghost use Rattle.ftp_control.specs.Channel.{IsSound};
 ghost use Rattle.ftp_calls.specs.declared.call.Answer.TheVariants.{Fault};
 ghost use Rattle.ftp_calls.specs.declared.call.Call.{Call as Called};
 ghost use Rattle.ftp_calls.specs.Exchanges.{call_of};
+ghost use Rattle.ftp_calls.specs.Times.{time_value};
 ghost use Rattle.ftp_session.specs.Calls.{reply_answer, unit_answer};
 ghost use Rattle.ftp_dialogue.specs.Coding.{chosen};
 ghost use Rattle.ftp_dialogue.specs.Counted.{CountsFaults};
@@ -35,6 +36,7 @@ use ftp_calls::call::BorrowedCall;
 use ftp_calls::exchange::Codes;
 use ftp_dialogue::asks::Nothing;
 use ftp_transport::{Conn, Network};
+use jiff::civil::DateTime;
 use std::alloc::{AllocError, Global};
 use std::net::SocketAddr;
 
@@ -270,6 +272,23 @@ where
         ensures keeps { Keeps self.old self.new }
     {
         self.perform(alloc, BorrowedCall::Rename(from, to))
+    }
+
+    /// Sets when a file was last changed, in UTC: `MFMT` (213; draft-somers-ftp-mfxx-04, section 3), where `FEAT` names it. The
+    /// fraction of a second isn't sent; a year before 0 goes out with its sign, and a server refuses it.
+    ///
+    /// # Errors
+    /// Those of a command and its reply.
+    pub fn set_modified(&mut self, alloc: Global, path: &str, moment: DateTime) -> FtpResult<()>
+        ensures plays { PlaysCommand (blocking Tr.Conn.Conn)
+            (unit_tree (chosen E.decoded E.encoded self.old.encoding.0)
+            (Command.Mfmt (time_value moment) path.now) (Codes.One Status.File))
+            self.old.mark self.new.mark self.old.machine self.new.machine (unit_answer result) }
+        ensures counts { CountsFaults Tr.Conn.tells self.old.machine self.new.machine
+            (unit_answer result) }
+        ensures keeps { Keeps self.old self.new }
+    {
+        self.perform(alloc, BorrowedCall::SetModified(path, &moment))
     }
 
     /// Ends the session: `QUIT` (221).

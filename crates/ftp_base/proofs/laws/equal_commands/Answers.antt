@@ -40,12 +40,12 @@ type_same a b = search rules
 -- `==` of the fields of each variant
 abbrev each : Each Bool the_parts
 each =
-    ((λ _ _. true), ((λ a b. text_eq a.0 b.0), ((λ _ _. true), ((λ _ _. true), ((λ _ _. true), ((λ a b. text_eq a.0 b.0), ((λ a b. text_eq a.0 b.0), ((λ a b. addresses.eq a.0 b.0), ((λ _ _. true), ((λ _ _. true), ((λ a b. option_eq text_eq a.0 b.0), ((λ a b. text_eq a.0 b.0), ((λ a b. text_eq a.0 b.0), ((λ a b. option_eq text_eq a.0 b.0), ((λ a b. option_eq text_eq a.0 b.0), ((λ a b. option_eq text_eq a.0 b.0), ((λ _ _. true), ((λ a b. text_eq a.0 b.0 && option_eq text_eq a.1.0 b.1.0), ((λ a b. text_eq a.0 b.0), ((λ _ _. true), ((λ a b. nat_eq a.0 b.0), ((λ a b. text_eq a.0 b.0), ((λ a b. levels.eq a.0 b.0), ((λ _ _. true), ((λ _ _. true), ((λ a b. text_eq a.0 b.0), ((λ a b. text_eq a.0 b.0), ((λ a b. nat_eq a.0 b.0), ((λ a b. text_eq a.0 b.0), ((λ a b. text_eq a.0 b.0), ((λ a b. text_eq a.0 b.0), ((λ a b. text_eq a.0 b.0), ((λ a b. text_eq a.0 b.0), ((λ a b. types.eq a.0 b.0), ((λ a b. text_eq a.0 b.0), ((λ a b. text_eq a.0 b.0), tt))))))))))))))))))))))))))))))))))))
+    ((λ _ _. true), ((λ a b. text_eq a.0 b.0), ((λ _ _. true), ((λ _ _. true), ((λ _ _. true), ((λ a b. text_eq a.0 b.0), ((λ a b. text_eq a.0 b.0), ((λ a b. addresses.eq a.0 b.0), ((λ _ _. true), ((λ _ _. true), ((λ a b. option_eq text_eq a.0 b.0), ((λ a b. text_eq a.0 b.0), ((λ a b. text_eq a.0 b.0 && text_eq a.1.0 b.1.0), ((λ a b. text_eq a.0 b.0), ((λ a b. option_eq text_eq a.0 b.0), ((λ a b. option_eq text_eq a.0 b.0), ((λ a b. option_eq text_eq a.0 b.0), ((λ _ _. true), ((λ a b. text_eq a.0 b.0 && option_eq text_eq a.1.0 b.1.0), ((λ a b. text_eq a.0 b.0), ((λ _ _. true), ((λ a b. nat_eq a.0 b.0), ((λ a b. text_eq a.0 b.0), ((λ a b. levels.eq a.0 b.0), ((λ _ _. true), ((λ _ _. true), ((λ a b. text_eq a.0 b.0), ((λ a b. text_eq a.0 b.0), ((λ a b. nat_eq a.0 b.0), ((λ a b. text_eq a.0 b.0), ((λ a b. text_eq a.0 b.0), ((λ a b. text_eq a.0 b.0), ((λ a b. text_eq a.0 b.0), ((λ a b. text_eq a.0 b.0), ((λ a b. types.eq a.0 b.0), ((λ a b. text_eq a.0 b.0), ((λ a b. text_eq a.0 b.0), tt)))))))))))))))))))))))))))))))))))))
 
 command_same : (a b : Command) → Decides (commands.eq a b) (a ≡ b)
 command_same a b =
     let same : Decides (commands.eq a b) (as_values a ≡ as_values b) = by-Decides the_parts each
-    (no_fields, (one_field text_eq text_same, (no_fields, (no_fields, (no_fields, (one_field text_eq text_same, (one_field text_eq text_same, (one_field addresses.eq address_same, (no_fields, (no_fields, (one_field (option_eq text_eq) option_same, (one_field text_eq text_same, (one_field text_eq text_same, (one_field (option_eq text_eq) option_same, (one_field (option_eq text_eq) option_same, (one_field (option_eq text_eq) option_same, (no_fields, (two_fields text_eq (option_eq text_eq) text_same option_same, (one_field text_eq text_same, (no_fields, (one_field nat_eq unsigned_Decides, (one_field text_eq text_same, (one_field levels.eq level_same, (no_fields, (no_fields, (one_field text_eq text_same, (one_field text_eq text_same, (one_field nat_eq unsigned_Decides, (one_field text_eq text_same, (one_field text_eq text_same, (one_field text_eq text_same, (one_field text_eq text_same, (one_field text_eq text_same, (one_field types.eq type_same, (one_field text_eq text_same, (one_field text_eq text_same, tt)))))))))))))))))))))))))))))))))))) (as_values a) (as_values b) in
+    (no_fields, (one_field text_eq text_same, (no_fields, (no_fields, (no_fields, (one_field text_eq text_same, (one_field text_eq text_same, (one_field addresses.eq address_same, (no_fields, (no_fields, (one_field (option_eq text_eq) option_same, (one_field text_eq text_same, (two_fields text_eq text_eq text_same text_same, (one_field text_eq text_same, (one_field (option_eq text_eq) option_same, (one_field (option_eq text_eq) option_same, (one_field (option_eq text_eq) option_same, (no_fields, (two_fields text_eq (option_eq text_eq) text_same option_same, (one_field text_eq text_same, (no_fields, (one_field nat_eq unsigned_Decides, (one_field text_eq text_same, (one_field levels.eq level_same, (no_fields, (no_fields, (one_field text_eq text_same, (one_field text_eq text_same, (one_field nat_eq unsigned_Decides, (one_field text_eq text_same, (one_field text_eq text_same, (one_field text_eq text_same, (one_field text_eq text_same, (one_field text_eq text_same, (one_field types.eq type_same, (one_field text_eq text_same, (one_field text_eq text_same, tt))))))))))))))))))))))))))))))))))))) (as_values a) (as_values b) in
     (λ t. the_type.to_one a b (ap (intoss the_parts) (same.0 t)), λ e. same.1 (ap as_values e))
 
 pub returns : goal.returns
