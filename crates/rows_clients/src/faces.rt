@@ -27,13 +27,23 @@ pub enum Face {
     Polled,
 }
 
+/// How many bytes of a server are read a byte at a time at most, where each row is played once.
+const MOST_BYTEWISE: usize = 1 << 16;
+
 /// How often a row is played on a face.
 #[derive(Clone, Copy)]
 pub enum Cuts {
     /// To the end of each call or poll, too, so that it is seen what was sent in each.
     EachCall,
-    /// Once, to its end.
+    /// Once, to its end; a byte at a time only where the server sends few.
     None,
+}
+
+impl Cuts {
+    /// Whether a face is passed over, which would play the row for seconds.
+    pub fn passes_over(self, face: Face, play: &Play) -> bool {
+        matches!((self, face), (Cuts::None, Face::Bytewise)) && play.input.len() > MOST_BYTEWISE
+    }
 }
 
 /// What a row resulted in on a face.

@@ -6,8 +6,8 @@
 //! empty line ends it. docs/ROWS.md has the words. A line that isn't understood ends the program with status 1, so that
 //! no row is passed over.
 //!
-//! With the word `once` each row is played once a face, and what is due of it is compared without the places at which its
-//! calls end.
+//! With the word `once` each row is played once a face, a byte at a time only where the server sends 64 KiB at most, and what
+//! is due of it is compared without the places at which its calls end.
 #![tactic(auto)]
 
 mod client;

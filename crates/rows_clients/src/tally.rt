@@ -103,7 +103,7 @@ impl<'a> Tally<'a> {
         play: &Play,
         agreement: &mut Agreement,
     ) -> Result<()> {
-        if !face.plays(play) {
+        if !face.plays(play) || self.cuts.passes_over(face, play) {
             return Ok(());
         }
         let due = row.due()?;
