@@ -16,8 +16,7 @@ where
     let length = fs::metadata(rt, here).context("here")?.len();
     let mut file = OpenOptions::new().append(true).open(rt, here)?;
     client.transfer_type(rt, FileType::Binary)?;
-    client.resume_transfer(rt, length)?;
-    Ok(client.write_to(rt, name, &mut file, &mut NoProgress)?)
+    Ok(client.download_to(rt, name, &mut file, length, &mut NoProgress)?)
 }
 
 /// Writes the front of a file, downloads what follows it, and prints how much that was.

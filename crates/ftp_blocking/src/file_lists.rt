@@ -4,7 +4,8 @@
 use super::ImplFtpStream;
 use ftp_base::encoding::Encoding;
 use ftp_base::types::{FtpError, FtpResult};
-use ftp_list::{File, Listing, names_facts};
+use ftp_list::{File, Listing};
+use ftp_shared::has_facts;
 use ftp_transport::{Conn, Network, PassiveStreamBuilder, Transport};
 use jiff::Timestamp;
 use std::sync::Wait;
@@ -55,7 +56,21 @@ where
     where
         Tr: Transport<R>,
     {
-        if self.lists_facts(rt)? {
+        let has_facts = self.lists_facts(rt)?;
+        self.listing(rt, has_facts, path)
+    }
+
+    /// The listing of a directory: by `MLSD` where the server has facts, else by `LIST`.
+    pub(crate) fn listing<R: Wait + Clock + AllocGlobal>(
+        &self,
+        rt: &R,
+        has_facts: bool,
+        path: Option<&str>,
+    ) -> FtpResult<Listing>
+    where
+        Tr: Transport<R>,
+    {
+        if has_facts {
             let lines = self.mlsd(rt, path)?;
             return Ok(Listing::of_mlsd(rt.alloc(), &lines)?);
         }
@@ -67,15 +82,10 @@ where
     }
 
     /// Whether the server says that it has `MLSD`.
-    fn lists_facts<R: Wait + AllocGlobal>(&self, rt: &R) -> FtpResult<bool> {
-        match self.feat(rt) {
-            Ok(features) => Ok(
-                features
-                    .iter()
-                    .any(|(name, _value)| names_facts(name.as_str())),
-            ),
-            Err(FtpError::UnexpectedResponse(_reply)) => Ok(false),
-            Err(fault) => Err(fault),
+    pub(crate) fn lists_facts<R: Wait + AllocGlobal>(&self, rt: &R) -> FtpResult<bool> {
+        match self.features(rt)? {
+            Some(features) => Ok(has_facts(&features)),
+            None => Ok(false),
         }
     }
 }

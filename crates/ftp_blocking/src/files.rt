@@ -4,6 +4,7 @@ use super::ImplFtpStream;
 use ftp_base::encoding::Encoding;
 use ftp_base::types::FtpResult;
 use ftp_session::session::DownloadReader;
+use ftp_shared::FromOffset;
 use ftp_transfer::Progress;
 use ftp_transport::{Conn, Network, PassiveStreamBuilder, Transport};
 use std::io::{Read, Write};
@@ -112,6 +113,30 @@ where
     {
         self.opening(rt)
             .write_to(rt.alloc(), rt, path, writer, progress)
+    }
+
+    /// Downloads what follows this offset, in bytes, of a file to a writer, as `write_to` does: `REST` (350; RFC 3659,
+    /// section 5), where the offset isn't 0, and `RETR` (150, 125), in one hold of the lock. Returns how many bytes came, and reports
+    /// the place in the file that the download has come to: the offset and these. An offset that `resume_transfer` set
+    /// doesn't count, and none is left, unless memory runs out before a data connection is asked for.
+    ///
+    /// # Errors
+    /// Those of `resume_transfer` and `write_to`.
+    pub fn download_to<R: Wait + AllocGlobal, W: Write, P: Progress>(
+        &self,
+        rt: &R,
+        path: &str,
+        writer: &mut W,
+        offset: u64,
+        progress: &mut P,
+    ) -> FtpResult<u64>
+    where
+        Tr: Transport<R>,
+    {
+        let mut session = self.opening(rt);
+        session.resume_transfer(rt.alloc(), offset)?;
+        let mut progress = FromOffset::new(offset, progress);
+        session.write_to(rt.alloc(), rt, path, writer, &mut progress)
     }
 
     /// Downloads this file to the caller's reader: `RETR` (150, 125; RFC 959, section 4.1.3), the reader, which is

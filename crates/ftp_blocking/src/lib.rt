@@ -12,6 +12,7 @@
 
 mod commands;
 mod connecting;
+mod connecting_with;
 mod control_socket;
 mod file_lists;
 mod files;
@@ -23,6 +24,8 @@ mod securing;
 mod settings;
 mod transfer_stream;
 mod transfers;
+mod utf8;
+mod walking;
 
 pub use connecting::OverTcp;
 pub use control_socket::ControlSocket;

@@ -112,6 +112,13 @@ where
         }
     }
 
+    /// The state, for a client of this mode, which reads replies leniently or not.
+    pub(crate) fn begun_in(mut self, mode: Mode, lenient: bool) -> Self {
+        self.mode = mode;
+        self.lenient = lenient;
+        self
+    }
+
     /// A state that reads the greeting of a session.
     fn over(rt: &'r R, made: FtpResult<Session<Tr, K, E, B>>) -> Self {
         let (session, fault) = match made {

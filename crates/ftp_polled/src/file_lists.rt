@@ -129,7 +129,7 @@ fn turn_after(answer: Answer) -> FtpResult<Turn> {
 ///
 /// # Errors
 /// The answer's; `OutOfMemory`.
-fn facts_in<R: AllocGlobal>(rt: &R, answer: Answer) -> FtpResult<Listing> {
+pub(crate) fn facts_in<R: AllocGlobal>(rt: &R, answer: Answer) -> FtpResult<Listing> {
     let lines: Vec<String> = FromAnswer::from_answer(answer)?;
     Ok(Listing::of_mlsd(rt.alloc(), &lines)?)
 }
@@ -138,7 +138,7 @@ fn facts_in<R: AllocGlobal>(rt: &R, answer: Answer) -> FtpResult<Listing> {
 ///
 /// # Errors
 /// The answer's; `BadResponse` where the present moment can't be read; `OutOfMemory`.
-fn files_in<R: Clock + AllocGlobal>(rt: &R, answer: Answer) -> FtpResult<Listing> {
+pub(crate) fn files_in<R: Clock + AllocGlobal>(rt: &R, answer: Answer) -> FtpResult<Listing> {
     let lines: Vec<String> = FromAnswer::from_answer(answer)?;
     match Timestamp::now(rt) {
         Ok(now) => Ok(Listing::of_list(rt.alloc(), &lines, now)?),

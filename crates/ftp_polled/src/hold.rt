@@ -122,4 +122,11 @@ where
             session.forget_request(&mut AsksItself);
         }
     }
+
+    /// The offset that a call has set for the next transfer is taken back, where the lock is held.
+    pub(crate) fn forget_offset(&mut self) {
+        if let Hold::Has(session) = self {
+            session.forget_offset();
+        }
+    }
 }

@@ -12,7 +12,7 @@ use ftp_base::encoding::Encoding;
 use ftp_base::types::{ConnectionError, FtpError, FtpResult, Response};
 use ftp_calls::call::BorrowedCall;
 use ftp_session::session::{
-    Call, DropsCalls, HandsTransfers, NewMark, PolledCall, PollsCalls, Session, take_back,
+    Answer, Call, DropsCalls, HandsTransfers, NewMark, PolledCall, PollsCalls, Session, take_back,
 };
 use ftp_transfer::{Direction, Transfer};
 use ftp_transport::{PassiveStreamBuilder, PollConn, PollTransport, TaskConn, TaskTransport};
@@ -33,6 +33,9 @@ where
     hold: Hold<Box<Session<Tr, K, E, B>>>,
     // In memory of its own, so that a future that moves moves little. None where there was no memory for it.
     call: Option<Box<PolledCall>>,
+    // What sets the offset, until it is set; and whether there is one. It isn't left for another transfer.
+    offset: Option<Box<PolledCall>>,
+    has_offset: bool,
     // The mark of the transfer, made at the first poll.
     mark: Option<NewMark>,
     replies: bool,
@@ -62,10 +65,22 @@ where
             rt,
             hold: Hold::on(shared),
             call: boxed(rt.alloc(), call),
+            offset: None,
+            has_offset: false,
             mark: None,
             replies,
             direction,
         }
+    }
+
+    /// The same, where the transfer begins at this offset, in bytes, in place of the one that was set before.
+    pub(crate) fn at_offset(mut self, offset: u64) -> Opening<'r, R, Tr, K, E, B> {
+        self.offset = boxed(self.rt.alloc(), BorrowedCall::ResumeTransfer(offset));
+        self.has_offset = true;
+        if self.offset.is_none() {
+            drop(self.call.take());
+        }
+        self
     }
 
     /// Lets the lock go.
@@ -148,7 +163,7 @@ where
                 Err(fault) => return Poll::Ready(Err(fault)),
             },
         };
-        match session.poll_call(alloc, self.rt, call, &mut ()) {
+        match poll_in_turn(session, self.rt, &mut self.offset, call) {
             Poll::Ready(answer) => {
                 session.settle_mode();
                 Poll::Ready(session.hand_over(mark, answer, self.replies, self.direction))
@@ -161,6 +176,27 @@ where
     }
 }
 
+/// Continues to set an offset, if there is one, and then the call that opens the transfer.
+fn poll_in_turn<R: AllocGlobal, Tr, K: Drop, E: Encoding, B>(
+    session: &mut Session<Tr, K, E, B>,
+    rt: &R,
+    offset: &mut Option<Box<PolledCall>>,
+    call: &mut PolledCall,
+) -> Poll<Answer>
+where
+    Tr: PollTransport<R, ()> + TaskTransport,
+    Tr::Conn: PollConn<()> + TaskConn,
+    B: PassiveStreamBuilder<Tr::Conn>,
+{
+    if let Some(sets) = offset {
+        match session.poll_call(rt.alloc(), rt, sets, &mut ()) {
+            Poll::Ready(Answer::Unit) => drop(offset.take()),
+            other => return other,
+        }
+    }
+    session.poll_call(rt.alloc(), rt, call, &mut ())
+}
+
 impl<R, Tr: TaskTransport, K: Drop, E: Encoding, B: Drop> Drop for Opening<'_, R, Tr, K, E, B>
 where
     Tr::Conn: TaskConn,
@@ -170,13 +206,21 @@ where
             rt: _,
             mut hold,
             call,
+            offset,
+            has_offset,
             mark,
             replies: _,
             direction: _,
         } = self;
-        if let Some(made) = &call {
+        if let Some(sets) = &offset {
+            hold.drop_call(sets);
+        } else if let Some(made) = &call {
             hold.drop_call(made);
         }
+        if has_offset {
+            hold.forget_offset();
+        }
+        drop(offset);
         drop(call);
         drop(mark);
         drop(hold);

@@ -66,6 +66,21 @@ where
     }
 }
 
+impl<'r, R, Tr: TaskTransport, K: Drop, E: Encoding, B: Drop, F> Retrieve<'r, R, Tr, K, E, B, F>
+where
+    Tr::Conn: TaskConn,
+    F: RetrReader<Tr::Conn>,
+{
+    /// A download that this opens.
+    fn new(opening: Opening<'r, R, Tr, K, E, B>, reader: F) -> Self {
+        Retrieve {
+            file: WholeFile::new(opening),
+            reader,
+            read: None,
+        }
+    }
+}
+
 impl<'r, R: AllocGlobal, Tr, K: Drop, E: Encoding, B, F> Retrieve<'r, R, Tr, K, E, B, F>
 where
     Tr: PollTransport<R, ()> + TaskTransport,
@@ -152,10 +167,19 @@ where
     ) -> Retrieve<'r, R, Tr, K, E, B, F> {
         let call = BorrowedCall::RetrAsStream(path);
         let opening = Opening::new(rt, &self.session, call, false, Direction::Download);
-        Retrieve {
-            file: WholeFile::new(opening),
-            reader,
-            read: None,
-        }
+        Retrieve::new(opening, reader)
+    }
+
+    /// Downloads what follows this offset of a file by a reader, in one hold of the lock.
+    pub(crate) fn retr_from<'r, R: AllocGlobal, F: RetrReader<Tr::Conn>>(
+        &self,
+        rt: &'r R,
+        path: &str,
+        offset: u64,
+        reader: F,
+    ) -> Retrieve<'r, R, Tr, K, E, B, F> {
+        let call = BorrowedCall::RetrAsStream(path);
+        let opening = Opening::new(rt, &self.session, call, false, Direction::Download);
+        Retrieve::new(opening.at_offset(offset), reader)
     }
 }

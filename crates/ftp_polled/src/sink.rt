@@ -10,6 +10,7 @@ use ftp_base::encoding::Encoding;
 use ftp_base::retry::RETRIES;
 use ftp_base::types::{FtpError, FtpResult};
 use ftp_copying::{STEPS, behind, front, io_fault};
+use ftp_shared::FromOffset;
 use ftp_transfer::{Progress, Transfer};
 use ftp_transport::{PollConn, TaskConn, TaskTransport};
 use futures::task::{Context, Poll};
@@ -20,8 +21,11 @@ use tokio::io::AsyncWrite;
 /// How many bytes of the data are read at once at most.
 const BUFFER: usize = 65_536;
 
-/// How many bytes are read first; more, once a read has filled the buffer.
-const FIRST: usize = 8_192;
+/// How many bytes are read first: a small file's, since memory is filled before it is read into.
+const FIRST: usize = 2_000;
+
+/// How many bytes are read next, once a read has filled the buffer.
+const NEXT: usize = 8_192;
 
 /// What reads a download into a writer, and reports how far it has come. It makes of it how many bytes were written.
 pub struct Sink<W: AsyncWrite, P: Progress> {
@@ -183,11 +187,11 @@ fn buffer(alloc: Global) -> Option<Vec<u8>> {
     vec![in alloc; 0u8; FIRST].ok()
 }
 
-/// Makes a buffer twice as long, up to the most that is read at once. Where there is no memory it stays as it is.
+/// Makes a buffer at least twice as long, up to the most that is read at once. Where there is no memory it stays as it is.
 fn grow(buffer: &mut Vec<u8>) {
     let length = buffer.len();
     if length < BUFFER {
-        let _ = buffer.resize((length * 2).min(BUFFER), 0);
+        let _ = buffer.resize((length * 2).max(NEXT).min(BUFFER), 0);
     }
 }
 
@@ -214,6 +218,9 @@ impl<C: PollConn<()> + TaskConn + Drop, W: AsyncWrite, P: Progress> RetrReader<C
 /// connection or of the writer leaves it, too.
 pub type WriteTo<'r, R, Tr, K, E, B, W, P> = Retrieve<'r, R, Tr, K, E, B, Sink<W, P>>;
 
+/// A download to a writer from an offset on, as [`WriteTo`]. It returns how many bytes came.
+pub type DownloadTo<'r, R, Tr, K, E, B, W, P> = WriteTo<'r, R, Tr, K, E, B, W, FromOffset<P>>;
+
 impl<Tr: TaskTransport, K: Drop, E: Encoding, B: Drop> ImplAsyncFtpStream<Tr, K, E, B>
 where
     Tr::Conn: PollConn<()> + TaskConn,
@@ -234,5 +241,24 @@ where
         progress: P,
     ) -> WriteTo<'r, R, Tr, K, E, B, W, P> {
         self.retr(rt, path, Sink::new(rt.alloc(), writer, progress))
+    }
+
+    /// Downloads what follows this offset, in bytes, of a file to a writer, as `write_to` does: `REST` (350; RFC 3659,
+    /// section 5), where the offset isn't 0, and `RETR` (150, 125), in one hold of the lock. It returns how many bytes came, and
+    /// reports the place in the file that the download has come to: the offset and these. An offset that
+    /// `resume_transfer` set doesn't count, and none is left.
+    ///
+    /// # Errors
+    /// Those of `resume_transfer` and `write_to`.
+    pub fn download_to<'r, R: AllocGlobal, W: AsyncWrite, P: Progress>(
+        &self,
+        rt: &'r R,
+        path: &str,
+        writer: W,
+        offset: u64,
+        progress: P,
+    ) -> DownloadTo<'r, R, Tr, K, E, B, W, P> {
+        let progress = FromOffset::new(offset, progress);
+        self.retr_from(rt, path, offset, Sink::new(rt.alloc(), writer, progress))
     }
 }

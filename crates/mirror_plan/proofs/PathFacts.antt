@@ -13,13 +13,10 @@ use Rattle.std.proofs.lemmas.Grind.{common_steps}
 use Rattle.ftp_list.specs.Names.{is_plain_name}
 use Rattle.mirror_plan.specs.Paths.{Path, is_inside, is_below, parent_of, path_cmp}
 
-list_all-push : (names : Path) (name : List ℕ) → list_all is_plain_name names ≡ true → is_plain_name name ≡ true → list_all is_plain_name (names ++ name ∷ []) ≡ true
-list_all-push [] name all one = grind (arith, common_steps)
-list_all-push (n ∷ ns) name all one = grind (arith, common_steps, list_all-push ns name)
-
--- a plain name below a path stays inside
-pub is_inside-push : (path : Path) (name : List ℕ) → IsTrue (is_inside path) → is_plain_name name ≡ true → IsTrue (is_inside (path ++ name ∷ []))
-is_inside-push path name inside one = grind (arith, common_steps, list_all-push path name)
+-- plain names of which there is a last are a path inside
+pub is_inside-last : (folder : Path) (name : List ℕ) → IsTrue (list_all is_plain_name (folder ++ name ∷ [])) → IsTrue (is_inside (folder ++ name ∷ []))
+is_inside-last [] name plain = grind (arith, common_steps)
+is_inside-last (n ∷ ns) name plain = grind (arith, common_steps)
 
 -- the folder of what was put into a folder
 pub parent_of-push : (folder : Path) (name : List ℕ) → parent_of (folder ++ name ∷ []) ≡ folder

@@ -1,5 +1,5 @@
 -- Paths below the root of a mirror.
-use Rattle.std.specs.Prelude.{ℕ, Bool, true, false, not, ◌&&◌, ◌==◌, List, [], ◌∷◌, ◌++◌, length, bytes_eq}
+use Rattle.std.specs.Prelude.{ℕ, Bool, true, false, not, ◌&&◌, ◌==◌, List, [], ◌∷◌, length, bytes_eq}
 use Rattle.std.specs.List.{list_all}
 use Rattle.std.specs.Ordering.{nat_cmp}
 use Rattle.std.specs.Cmp.Lexicographic.{slice_cmp}
@@ -13,11 +13,6 @@ Path = List (List ℕ)
 -- a path that stays below the root: one or more plain names
 abbrev pub is_inside : Path → Bool
 is_inside path = not (length path == 0) && list_all is_plain_name path
-
--- the path of a file in a local directory: the directory's, and then each name after a '/'
-abbrev pub joined : List ℕ → Path → List ℕ
-joined root [] = root
-joined root (name ∷ names) = joined (root ++ 47 ∷ name) names
 
 -- the order of paths, name by name: a folder comes directly before what is below it
 abbrev pub path_cmp : Path → Path → Ordering

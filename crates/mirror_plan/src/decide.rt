@@ -7,11 +7,12 @@ ghost use Rattle.mirror_plan.specs.Plan as plan;
 
 use crate::action::Reason;
 use crate::node::{Node, Policy, is_folder};
-use crate::path::{Name, RelativePath, is_below};
+use crate::path::{RelativePath, is_below};
 use crate::tree::{Tree, start_below};
+use ftp_shared::PlaceName;
 
 /// What stands at a path, or at the last name on the way to it that is there.
-fn nearest(tree: &Tree, names: &[Name]) -> Option<Node>
+fn nearest(tree: &Tree, names: &[PlaceName]) -> Option<Node>
     ensures { result ≡ plan.nearest tree.now names.now }
 {
     let mut reached = tree.at(&names[..0]);
@@ -42,14 +43,14 @@ fn shows_absence(node: Option<Node>) -> bool
 }
 
 /// Whether the tree was seen not to have a path.
-pub(crate) fn is_gone(tree: &Tree, names: &[Name]) -> bool
+pub(crate) fn is_gone(tree: &Tree, names: &[PlaceName]) -> bool
     ensures { result ≡ plan.is_gone tree.now names.now }
 {
     tree.at(names).is_none() && shows_absence(nearest(tree, names))
 }
 
 /// Whether nothing is at a path and it can be made there.
-fn is_free(tree: &Tree, names: &[Name]) -> bool
+fn is_free(tree: &Tree, names: &[PlaceName]) -> bool
     ensures { result ≡ plan.is_free tree.now names.now }
 {
     tree.at(names).is_none() && is_folder(nearest(tree, names))
@@ -82,7 +83,7 @@ fn is_stale(policy: Policy, size: u64, modified: Option<i64>, there: Option<Node
 }
 
 /// Whether a node of the first tree is made or copied.
-pub(crate) fn is_made(to: &Tree, policy: Policy, names: &[Name], node: Node) -> bool
+pub(crate) fn is_made(to: &Tree, policy: Policy, names: &[PlaceName], node: Node) -> bool
     ensures { result ≡ plan.is_made to.now policy names.now node }
 {
     match node {
@@ -108,7 +109,7 @@ fn is_kept(node: Node) -> bool
 }
 
 /// Whether something below a folder is never removed. What is below it comes directly after it.
-fn holds_kept(to: &Tree, folder: &[Name]) -> bool
+fn holds_kept(to: &Tree, folder: &[PlaceName]) -> bool
     ensures { result ≡ plan.holds_kept to.now folder.now }
 {
     let entries = to.entries();
@@ -125,7 +126,13 @@ fn holds_kept(to: &Tree, folder: &[Name]) -> bool
 }
 
 /// Whether a node of the second tree is removed.
-pub(crate) fn is_removed(from: &Tree, to: &Tree, policy: Policy, names: &[Name], node: Node) -> bool
+pub(crate) fn is_removed(
+    from: &Tree,
+    to: &Tree,
+    policy: Policy,
+    names: &[PlaceName],
+    node: Node,
+) -> bool
     ensures { result ≡ plan.is_removed from.now to.now policy names.now node }
 {
     policy.delete
@@ -190,7 +197,7 @@ pub(crate) fn not_removed(
     from: &Tree,
     to: &Tree,
     policy: Policy,
-    names: &[Name],
+    names: &[PlaceName],
     node: Node,
 ) -> Option<Reason>
     ensures { result ≡ plan.not_removed from.now to.now policy names.now node }

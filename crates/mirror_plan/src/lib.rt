@@ -15,6 +15,6 @@ mod tree;
 
 pub use crate::action::{Action, Plan, Reason, Undone};
 pub use crate::node::{Node, Policy};
-pub use crate::path::{Name, PathError, RelativePath};
+pub use crate::path::{PathError, RelativePath};
 pub use crate::planning::plan;
 pub use crate::tree::{InsertError, Tree};

@@ -1,90 +1,16 @@
 //! Paths below the root of a mirror.
 //!
-//! A server may list any name. A path is made of plain names alone, so that it can't lead out of the root.
-ghost use Rattle.std.specs.Prelude.{◌≡◌, ◌++◌, [], ◌∷◌, ◌↔◌, ◌==◌, ◌<◌, true, false, length, IfOk, OnOk, IsTrue, string_bytes};
-ghost use Rattle.std.specs.Ordering.{nat_cmp, as_partial_cmp};
-ghost use Rattle.std.specs.Cmp.{partial_order_from_own_ties};
-ghost use Rattle.std.specs.Cmp.Lexicographic.{pointwise, slice_cmp};
-ghost use Rattle.std.specs.Cmp.Rules.{comparing};
-ghost use Rattle.std.proofs.Common.{rules};
+//! A server may list any name. A path is a [`Place`], plain names alone, so that it can't lead out of the root.
+ghost use Rattle.std.specs.Prelude.{◌≡◌, ◌++◌, [], ◌∷◌, ◌↔◌, ◌<◌, true, false, length, IfOk, OnOk, IsTrue, string_bytes};
 ghost use Rattle.ftp_list.specs.Names.{is_plain_name};
-ghost use Rattle.mirror_plan.specs.Paths.{is_inside, joined, parent_of, path_cmp, is_below};
+ghost use Rattle.ftp_shared.specs.Places.{joined};
+ghost use Rattle.mirror_plan.specs.Paths.{is_inside, parent_of, path_cmp, is_below};
 
-use ftp_list::is_plain_name;
-use std::alloc::{AllocError, AllocFailed, Global};
+use ftp_shared::{Place, PlaceName};
+use std::alloc::{AllocError, Global};
 use std::cmp::Ordering;
 use std::marker::Model;
 use thiserror::Error;
-
-/// The name of a file or folder in its folder.
-#[derive(Clone, Debug, Drop)]
-pub struct Name {
-    text: String,
-}
-
-impl Model for Name {
-    ghost use Rattle.std.specs.Prelude.{ℕ, List, string_bytes};
-
-    ghost Value = { List ℕ };
-
-    ghost view = { λ name. string_bytes name.text };
-}
-
-impl Name {
-    /// A copy of a name.
-    fn from_str(alloc: Global, text: &str) -> Result<Name, AllocError>
-        ensures { IfOk result (λ name. name ≡ text.now) }
-    {
-        Ok(Name {
-            text: String::from_str(alloc, text)?,
-        })
-    }
-
-    /// The name as text.
-    pub fn as_str(&self) -> &str
-        ensures { result.now ≡ self.now }
-    {
-        self.text.as_str()
-    }
-}
-
-impl PartialEq for Name {
-    ghost eq = { pointwise ◌==◌ };
-
-    ghost laws = { Prim.search rules };
-
-    fn eq(&self, other: &Name) -> bool {
-        self.text == other.text
-    }
-}
-
-impl Eq for Name {
-    ghost laws = { Prim.search rules };
-}
-
-impl PartialOrd for Name {
-    ghost partial_cmp = { as_partial_cmp (slice_cmp nat_cmp) };
-
-    ghost laws = { partial_order_from_own_ties (Prim.search (comparing, rules)) (Prim.search (comparing, rules)) };
-
-    fn partial_cmp(&self, other: &Name) -> Option<Ordering> {
-        Some(self.cmp(other))
-    }
-}
-
-impl Ord for Name {
-    ghost cmp = { slice_cmp nat_cmp };
-
-    ghost total = { Prim.search (comparing, rules) };
-
-    ghost matches_partial_cmp = { Prim.search (comparing, rules) };
-
-    ghost matches_eq = { Prim.search (comparing, rules) };
-
-    fn cmp(&self, other: &Name) -> Ordering {
-        self.text.as_str().cmp(&other.text.as_str())
-    }
-}
 
 /// Why no path was made.
 #[derive(Debug, PartialEq, Eq, Drop, Error)]
@@ -107,22 +33,12 @@ impl From<AllocError> for PathError {
     }
 }
 
-impl From<AllocFailed<Name>> for PathError {
-    ghost use Rattle.mirror_plan.specs.declared.path.PathError.TheVariants.{OutOfMemory};
-
-    ghost from_gives = { λ _ e. e ≡ OutOfMemory };
-
-    fn from(_e: AllocFailed<Name>) -> PathError {
-        PathError::OutOfMemory
-    }
-}
-
-/// A path below the root of a mirror: one or more plain names, the outermost first.
+/// A place below the root of a mirror, which isn't the root itself: one or more plain names, the outermost first.
 ///
 /// Contracts see it as the list of its names.
 #[derive(Debug, Drop)]
 pub struct RelativePath {
-    names: Vec<Name>,
+    place: Place,
 }
 
 impl Model for RelativePath {
@@ -131,9 +47,9 @@ impl Model for RelativePath {
 
     ghost Value = { Path };
 
-    ghost view = { λ path. path.names.items };
+    ghost view = { λ path. path.place };
 
-    ghost invariant = { λ path. IsTrue (is_inside path.names.items) };
+    ghost invariant = { λ path. IsTrue (is_inside path.place) };
 }
 
 impl Clone for RelativePath {
@@ -142,7 +58,7 @@ impl Clone for RelativePath {
     /// The same path.
     fn clone(&self) -> Result<RelativePath, AllocError> {
         Ok(RelativePath {
-            names: self.names.clone()?,
+            place: self.place.clone()?,
         })
     }
 }
@@ -157,12 +73,7 @@ impl RelativePath {
         ensures plain { OnOk result (is_plain_name name.now ≡ true) }
         ensures not_plain { (result ≡ Err PathError.NotPlain) ↔ (is_plain_name name.now ≡ false) }
     {
-        if !is_plain_name(name) {
-            return Err(PathError::NotPlain);
-        }
-        let mut names = Vec::new(alloc);
-        names.push(Name::from_str(alloc, name)?)?;
-        Ok(RelativePath { names })
+        inside(&Place::root(alloc), alloc, name)
     }
 
     /// The path of a name in the folder of this path.
@@ -174,20 +85,15 @@ impl RelativePath {
         ensures plain { OnOk result (is_plain_name name.now ≡ true) }
         ensures not_plain { (result ≡ Err PathError.NotPlain) ↔ (is_plain_name name.now ≡ false) }
     {
-        if !is_plain_name(name) {
-            return Err(PathError::NotPlain);
-        }
-        let RelativePath { mut names } = self.clone()?;
-        names.push(Name::from_str(alloc, name)?)?;
-        Ok(RelativePath { names })
+        inside(&self.place, alloc, name)
     }
 
     /// The names, the outermost first.
-    pub fn names(&self) -> &[Name]
+    pub fn names(&self) -> &[PlaceName]
         ensures names { result.now ≡ self.now }
         ensures inside { IsTrue (is_inside result.now) }
     {
-        self.names.as_slice()
+        self.place.names()
     }
 
     /// How many names it has: 1 in the root.
@@ -195,17 +101,19 @@ impl RelativePath {
         ensures depth { result ≡ length self.now }
         ensures some { 0 < result }
     {
-        self.names.len()
+        self.place.depth()
     }
 
     /// The last name.
     pub fn name(&self) -> &str
         ensures { self.now ≡ parent_of self.now ++ result.now ∷ [] }
     {
-        self.names[self.names.len() - 1].as_str()
+        let names = self.place.names();
+        names[names.len() - 1].as_str()
     }
 
-    /// The path of the file in a local directory: the directory's, and then each name after a `/`.
+    /// The path of the file in a local directory: the directory's, and then each name after a `/`, as
+    /// [`Place::below`](ftp_shared::Place::below) has it.
     ///
     /// # Errors
     /// `AllocError`.
@@ -213,25 +121,31 @@ impl RelativePath {
         ensures path { IfOk result (λ text. string_bytes text ≡ joined root.now self.now) }
         ensures stays { IsTrue (is_inside self.now) }
     {
-        let names = self.names.as_slice();
-        let mut text = String::from_str(alloc, root)?;
-        for name in names {
-            text.push('/')?;
-            text.push_str(name.as_str())?;
-        }
-        Ok(text)
+        self.place.below(alloc, root)
+    }
+}
+
+/// The path of a name in this folder.
+fn inside(folder: &Place, alloc: Global, name: &str) -> Result<RelativePath, PathError>
+    ensures path { IfOk result (λ path. path ≡ folder.now ++ name.now ∷ []) }
+    ensures plain { OnOk result (is_plain_name name.now ≡ true) }
+    ensures not_plain { (result ≡ Err PathError.NotPlain) ↔ (is_plain_name name.now ≡ false) }
+{
+    match folder.child(alloc, name)? {
+        Some(place) => Ok(RelativePath { place }),
+        None => Err(PathError::NotPlain),
     }
 }
 
 /// Compares two paths name by name.
-pub(crate) fn compare(left: &[Name], right: &[Name]) -> Ordering
+pub(crate) fn compare(left: &[PlaceName], right: &[PlaceName]) -> Ordering
     ensures { result ≡ path_cmp left.now right.now }
 {
     left.cmp(&right)
 }
 
 /// Whether a path is below a folder.
-pub(crate) fn is_below(path: &[Name], folder: &[Name]) -> bool
+pub(crate) fn is_below(path: &[PlaceName], folder: &[PlaceName]) -> bool
     ensures { result ≡ is_below path.now folder.now }
 {
     folder.len() < path.len() && path.starts_with(folder)

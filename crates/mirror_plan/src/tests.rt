@@ -147,8 +147,8 @@ fn a_download_that_removes(rt: HostRuntime) -> Result<(), Fail> {
     )?;
     assert_eq!(rt;
         shown(rt.alloc(), &made)?.as_str(),
-        " remove /e/x remove folder /e remove /d/old copy /d/f copy /g KindDiffers /k \
-         KindDiffers /m NotAFileOrFolder /l KindDiffers /m/z ListingNotWhole /part/y"
+        " remove e/x remove folder e remove d/old copy d/f copy g KindDiffers k \
+         KindDiffers m NotAFileOrFolder l KindDiffers m/z ListingNotWhole part/y"
     );
     Ok(())
 }
@@ -167,8 +167,8 @@ fn an_upload_that_keeps(rt: HostRuntime) -> Result<(), Fail> {
     )?;
     assert_eq!(rt;
         shown(rt.alloc(), &made)?.as_str(),
-        " copy /d/f copy /d/old make /e copy /e/x copy /part/y KindDiffers /k \
-         NotAFileOrFolder /l KindDiffers /m"
+        " copy d/f copy d/old make e copy e/x copy part/y KindDiffers k \
+         NotAFileOrFolder l KindDiffers m"
     );
     Ok(())
 }

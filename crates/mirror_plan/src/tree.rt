@@ -7,7 +7,8 @@ ghost use Rattle.mirror_plan.specs.Paths.{Path, parent_of};
 ghost use Rattle.mirror_plan.specs.Listing.{is_folder, updated, IsAscending, IsPlace, IsGap, IsStart};
 
 use crate::node::{Node, is_folder};
-use crate::path::{Name, RelativePath, compare};
+use crate::path::{RelativePath, compare};
+use ftp_shared::PlaceName;
 use std::alloc::{AllocFailed, Global};
 use std::cmp::Ordering;
 use std::marker::Model;
@@ -116,7 +117,7 @@ impl Tree {
         is_folder(self.at(&names[..names.len() - 1]))
     }
 
-    pub(crate) fn at(&self, names: &[Name]) -> Option<Node>
+    pub(crate) fn at(&self, names: &[PlaceName]) -> Option<Node>
         ensures { result ≡ standing self.now names.now }
     {
         if names.is_empty() {
@@ -132,7 +133,7 @@ impl Tree {
 }
 
 /// Where a path is among the entries, or where it would go.
-fn position(entries: &[(RelativePath, Node)], names: &[Name]) -> Result<usize, usize>
+fn position(entries: &[(RelativePath, Node)], names: &[PlaceName]) -> Result<usize, usize>
     requires { IsAscending entries.now }
     ensures found { IfOk result (IsPlace entries.now names.now) }
     ensures absent { IfErr result (IsGap entries.now names.now) }
@@ -151,7 +152,7 @@ fn position(entries: &[(RelativePath, Node)], names: &[Name]) -> Result<usize, u
 }
 
 /// Where what is below a path begins among the entries.
-pub(crate) fn start_below(entries: &[(RelativePath, Node)], names: &[Name]) -> usize
+pub(crate) fn start_below(entries: &[(RelativePath, Node)], names: &[PlaceName]) -> usize
     requires { IsAscending entries.now }
     ensures { IsStart entries.now names.now result }
 {

@@ -1,14 +1,15 @@
-//! One line on a terminal that says how far the copies have come.
+//! Lines on a terminal that say how far the copies have come: one for each file under way, and one for all.
 
+use crate::amounts::amount;
 use crate::report::Report;
 use crate::system::System;
 use std::alloc::{AllocError, Global};
 use std::time::Duration;
 
-/// How many milliseconds pass before the line is drawn again.
+/// How many milliseconds pass before the lines are drawn again.
 const INTERVAL: u64 = 100;
 
-/// Draws the line until each file that is planned was copied, or wasn't.
+/// Draws the lines until each file that is planned was copied, or wasn't.
 pub fn draw_until_done<S: System>(system: &S, report: &Report) {
     let Some(start) = system.moment() else {
         return;
@@ -29,7 +30,7 @@ pub fn draw_until_done<S: System>(system: &S, report: &Report) {
             seconds: now.saturating_duration_since(start).as_secs(),
         };
         if let Ok(text) = state.text(system.alloc()) {
-            report.draw(system, text.as_str());
+            report.draw(system, text, now);
         }
         system.pause(Duration::from_millis(INTERVAL));
     }
@@ -46,27 +47,24 @@ struct State {
 }
 
 impl State {
-    /// The line: files and bytes of those planned, bytes a second, and the time that is left at that rate.
+    /// The line: files and bytes of those planned; once some have come bytes a second, and the time that is left at that
+    /// rate.
     fn text(&self, alloc: Global) -> Result<String, AllocError> {
         let done = amount(alloc, self.bytes)?;
         let all = amount(alloc, self.all_bytes)?;
         let rate = self.bytes / self.seconds.max(1);
+        if rate == 0 {
+            return format!(in alloc;
+                "{} of {} files, {done} of {all}",
+                self.files, self.all_files
+            );
+        }
         let each_second = amount(alloc, rate)?;
-        let left = self.all_bytes.saturating_sub(self.bytes) / rate.max(1);
+        let left = self.all_bytes.saturating_sub(self.bytes) / rate;
         let (minutes, seconds) = (left / 60, left % 60);
         format!(in alloc;
             "{} of {} files, {done} of {all}, {each_second}/s, {minutes}:{seconds:02} left",
             self.files, self.all_files
         )
-    }
-}
-
-/// So many bytes, in three or four digits.
-fn amount(alloc: Global, bytes: u64) -> Result<String, AllocError> {
-    match bytes {
-        0..10_000 => format!(in alloc; "{bytes} B"),
-        10_000..10_000_000 => format!(in alloc; "{} kB", bytes / 1_000),
-        10_000_000..10_000_000_000 => format!(in alloc; "{} MB", bytes / 1_000_000),
-        _ => format!(in alloc; "{} GB", bytes / 1_000_000_000),
     }
 }

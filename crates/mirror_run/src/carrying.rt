@@ -2,7 +2,7 @@
 
 use crate::bar::draw_until_done;
 use crate::downloading::{Wanted, download};
-use crate::mirror::Mirror;
+use crate::mirror::{Mirror, Work};
 use crate::problem::{Problem, may_pass};
 use crate::report::Went;
 use crate::system::{Change, System};
@@ -16,6 +16,12 @@ use std::thread::Threads;
 /// The files that are to be copied, of which the last is copied first.
 #[derive(Drop)]
 struct Copies(Mutex<Vec<Wanted>>);
+
+impl Work for Copies {
+    fn is_begun<S: System>(&self, system: &S) -> bool {
+        self.0.lock(system).is_empty()
+    }
+}
 
 /// Carries out a plan; what fails is told.
 ///
@@ -126,8 +132,11 @@ fn copy_all<S: System + Threads + Sync>(system: &S, mirror: &Mirror<'_>, copies:
         if mirror.report.is_drawn() {
             let _ = scope.spawn(move || draw_until_done(system, mirror.report));
         }
-        for _ in 1..mirror.task.jobs {
-            let _ = scope.spawn(move || copy_some(system, mirror, copies));
+        for number in 1..mirror.task.jobs {
+            let _ = scope.spawn(move || {
+                mirror.wait_to_help(system, number, copies);
+                copy_some(system, mirror, copies);
+            });
         }
         copy_some(system, mirror, copies);
     });
@@ -171,18 +180,31 @@ fn tell_copied<S: System>(
     }
 }
 
-/// Copies a file; a connection that is lost is made anew, and the file goes on where it was.
+/// Copies a file, and shows how far it comes.
 fn copy_one<S: System>(system: &S, mirror: &Mirror<'_>, wanted: &Wanted) -> Result<u64, Problem> {
-    let mut went = Went::new(mirror.report);
+    let name = wanted.path.below(system.alloc(), ".")?;
+    let mut went = mirror.report.begin(system, name.as_str(), wanted.size);
+    let copied = copy_in_tries(system, mirror, wanted, &mut went);
+    mirror.report.leave_file(system, &went);
+    copied
+}
+
+/// Copies a file; a connection that is lost is made anew, and the file goes on where it was.
+fn copy_in_tries<S: System>(
+    system: &S,
+    mirror: &Mirror<'_>,
+    wanted: &Wanted,
+    went: &mut Went<'_>,
+) -> Result<u64, Problem> {
     for attempt in 0..mirror.task.retries {
-        let copied = try_copy(system, mirror, wanted, &mut went);
+        let copied = try_copy(system, mirror, wanted, went);
         if !may_pass(&copied) {
             return copied;
         }
         drop(copied);
         mirror.pause(system, attempt);
     }
-    try_copy(system, mirror, wanted, &mut went)
+    try_copy(system, mirror, wanted, went)
 }
 
 /// Copies a file once.

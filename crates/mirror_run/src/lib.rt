@@ -3,6 +3,7 @@
 //! What reaches outside is in one trait, `System`, so that all else is proved over that alone.
 #![tactic(auto)]
 
+mod amounts;
 mod bar;
 mod carrying;
 mod downloading;
@@ -15,11 +16,15 @@ mod mirroring;
 mod problem;
 mod report;
 mod runtime;
+mod screen;
 mod server_tree;
 mod system;
 mod task;
+#[cfg(test)]
+mod tests;
 mod there;
 mod trees;
+mod under_way;
 mod uploading;
 
 pub use crate::listed::{Kind, Listed};

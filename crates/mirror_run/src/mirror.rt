@@ -6,16 +6,30 @@ use crate::system::{Connection, System};
 use crate::task::Task;
 use std::alloc::Global;
 use std::sync::Mutex;
+use std::sync::atomic::{AtomicU64, Ordering};
 use std::time::Duration;
 
 /// How often a pause is doubled.
 const DOUBLINGS: u32 = 5;
+
+/// How many milliseconds pass before a thread looks again whether one more connection gains anything.
+const LOOK: u64 = 2;
+
+/// Work that connections share.
+pub trait Work {
+    /// Whether nothing of it is left that no connection has begun.
+    fn is_begun<S: System>(&self, system: &S) -> bool;
+}
 
 /// What is to be done, what was, and the connections that wait for work.
 pub struct Mirror<'r> {
     pub task: &'r Task,
     pub report: &'r Report,
     idle: Mutex<Vec<Connection>>,
+    // How many connections were made, how many of them were lost, and how many milliseconds the last login took.
+    made: AtomicU64,
+    lost: AtomicU64,
+    login: AtomicU64,
 }
 
 impl Drop for Mirror<'_> {
@@ -24,6 +38,9 @@ impl Drop for Mirror<'_> {
             task: _,
             report: _,
             idle,
+            made: _,
+            lost: _,
+            login: _,
         } = self;
         drop(idle);
     }
@@ -36,6 +53,9 @@ impl<'r> Mirror<'r> {
             task,
             report,
             idle: Mutex::new(Vec::new(alloc)),
+            made: AtomicU64::new(0),
+            lost: AtomicU64::new(0),
+            login: AtomicU64::new(0),
         }
     }
 
@@ -47,13 +67,52 @@ impl<'r> Mirror<'r> {
         let idle = self.idle.lock(system).pop();
         match idle {
             Some(connection) => Ok(connection),
-            None => system.connect(&self.task.site),
+            None => self.connect(system),
+        }
+    }
+
+    /// A new connection.
+    ///
+    /// # Errors
+    /// Those of connecting and logging in.
+    fn connect<S: System>(&self, system: &S) -> Result<Connection, Problem> {
+        let begun = system.moment();
+        let connection = system.connect(&self.task.site)?;
+        if let (Some(begun), Some(now)) = (begun, system.moment()) {
+            let took = now.saturating_duration_since(begun).as_millis();
+            self.login
+                .store(u64::try_from(took).unwrap_or(u64::MAX), Ordering::SeqCst);
+        }
+        self.made.fetch_add(1, Ordering::SeqCst);
+        Ok(connection)
+    }
+
+    /// Waits until a connection more than so many may gain something, or all work is begun. Some servers take seconds for a
+    /// login, one after another: so that is once those are there, and the work has gone on for as long as a login took.
+    pub fn wait_to_help<S: System, W: Work>(&self, system: &S, number: usize, work: &W) {
+        let number = number as u64;
+        let mut waited = 0u64;
+        for _ in 0..u64::MAX {
+            let made = self.made.load(Ordering::SeqCst);
+            let there = made.saturating_sub(self.lost.load(Ordering::SeqCst));
+            if there > number || waited >= self.login.load(Ordering::SeqCst) {
+                return;
+            }
+            if work.is_begun(system) {
+                return;
+            }
+            if there == number {
+                waited = waited.saturating_add(LOOK);
+            }
+            system.pause(Duration::from_millis(LOOK));
         }
     }
 
     /// Gives a connection back, unless it is lost.
     pub fn give<S: System>(&self, system: &S, connection: Connection) {
-        if !system.is_lost(&connection) {
+        if system.is_lost(&connection) {
+            self.lost.fetch_add(1, Ordering::SeqCst);
+        } else {
             let _ = self.idle.lock(system).push(connection);
         }
     }

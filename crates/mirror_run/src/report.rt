@@ -1,10 +1,16 @@
 //! What is told, and what is counted.
 
+use crate::screen::Screen;
 use crate::system::System;
+use crate::under_way::{Reached, UnderWay, shown_name};
 use ftp_transfer::Progress;
 use std::alloc::{AllocError, Global};
-use std::sync::Mutex;
 use std::sync::atomic::{AtomicU64, Ordering};
+use std::sync::{Arc, Mutex};
+use std::time::Instant;
+
+/// How many files under way have a line of their own: a terminal has few.
+const LINES: usize = 12;
 
 /// What is shown of a mirror's work.
 #[derive(Clone, Copy)]
@@ -13,7 +19,7 @@ pub enum Shows {
     Lines,
     /// What is left undone, and nothing else.
     Problems,
-    /// One line that says how far the work has come, drawn anew again and again: for a terminal.
+    /// A line for each file under way and one for all, drawn anew again and again: for a terminal.
     Bar,
     /// Nothing: the lines are kept.
     Kept,
@@ -47,6 +53,10 @@ pub struct Report {
 struct State {
     counts: Counts,
     kept: String,
+    // the files under way, each with its number; and the number of the next
+    under_way: Vec<UnderWay>,
+    next: u64,
+    screen: Screen,
 }
 
 impl Drop for Report {
@@ -75,6 +85,9 @@ impl Report {
                     undone: 0,
                 },
                 kept: String::new(alloc),
+                under_way: Vec::new(alloc),
+                next: 0,
+                screen: Screen::new(),
             }),
             went: AtomicU64::new(0),
         }
@@ -87,11 +100,18 @@ impl Report {
             state,
             went: _,
         } = self;
-        let State { counts: _, kept } = state.into_inner();
+        let State {
+            counts: _,
+            kept,
+            under_way,
+            next: _,
+            screen: _,
+        } = state.into_inner();
+        drop(under_way);
         kept
     }
 
-    /// Whether one line is drawn again and again.
+    /// Whether lines are drawn again and again.
     pub(crate) fn is_drawn(&self) -> bool {
         matches!(self.shows, Shows::Bar)
     }
@@ -114,8 +134,8 @@ impl Report {
             Shows::Kept => keep(&mut state.kept, text_of(&line)),
             Shows::Lines | Shows::Problems => system.complain(text_of(&line)),
             Shows::Bar => {
-                system.draw("");
-                system.complain(text_of(&line));
+                clear(system, &mut state.screen);
+                complain_safely(system, text_of(&line));
             }
         }
     }
@@ -123,18 +143,48 @@ impl Report {
     /// Tells what came of all at the end.
     pub(crate) fn end<S: System>(&self, system: &S, line: Result<String, AllocError>) {
         if self.is_drawn() {
-            self.draw(system, "");
+            clear(system, &mut self.state.lock(system).screen);
             system.print(text_of(&line));
         } else {
             self.tell(system, line);
         }
     }
 
-    /// Draws how far the work has come.
-    pub(crate) fn draw<S: System>(&self, system: &S, text: &str) {
-        let state = self.state.lock(system);
-        system.draw(text);
+    /// Draws how far the files under way have come, and this line below them.
+    pub(crate) fn draw<S: System>(&self, system: &S, line: String, now: Instant) {
+        let mut state = self.state.lock(system);
+        let Ok(lines) = lines_of(system.alloc(), &state.under_way, line, now) else {
+            return;
+        };
+        if let Ok(text) = state.screen.redraw(system.alloc(), &lines) {
+            system.draw(text.as_str());
+        }
+    }
+
+    /// The copy of a file of this name begins.
+    pub(crate) fn begin<S: System>(&self, system: &S, name: &str, size: u64) -> Went<'_> {
+        let alloc = system.alloc();
+        let mut state = self.state.lock(system);
+        let number = state.next;
+        state.next = state.next.saturating_add(1);
+        let reached = Arc::new(alloc, Reached::new()).ok();
+        if self.is_drawn() {
+            let _ = state.add(system, number, name, size, &reached);
+        }
         drop(state);
+        Went {
+            all: &self.went,
+            number,
+            reached,
+            counted: 0,
+        }
+    }
+
+    /// The copy of a file has ended.
+    pub(crate) fn leave_file<S: System>(&self, system: &S, went: &Went<'_>) {
+        let mut state = self.state.lock(system);
+        let number = went.number;
+        state.under_way.retain(|file| file.number != number);
     }
 
     /// A file is to be copied.
@@ -181,32 +231,87 @@ fn keep(kept: &mut String, line: &str) {
     let _ = kept.push('\n');
 }
 
-/// How far a file has come, over all tries.
+/// Prints a line on standard error, in which a stranger's name may stand.
+fn complain_safely<S: System>(system: &S, line: &str) {
+    match shown_name(system.alloc(), line) {
+        Ok(shown) => system.complain(shown.as_str()),
+        Err(_) => system.complain("out of memory"),
+    }
+}
+
+/// Clears the lines that were drawn.
+fn clear<S: System>(system: &S, screen: &mut Screen) {
+    if let Ok(text) = screen.clear(system.alloc()) {
+        system.draw(text.as_str());
+    }
+}
+
+/// The lines of the files under way, and this one below them.
+fn lines_of(
+    alloc: Global,
+    under_way: &[UnderWay],
+    line: String,
+    now: Instant,
+) -> Result<Vec<String>, AllocError> {
+    let mut lines = Vec::new(alloc);
+    for file in under_way.iter().take(LINES) {
+        lines.push(file.line(alloc, now)?)?;
+    }
+    lines.push(line)?;
+    Ok(lines)
+}
+
+impl State {
+    /// Adds a file to those under way.
+    fn add<S: System>(
+        &mut self,
+        system: &S,
+        number: u64,
+        name: &str,
+        size: u64,
+        reached: &Option<Arc<Reached, Global>>,
+    ) -> Result<(), AllocError> {
+        let Some(reached) = reached else {
+            return Err(AllocError);
+        };
+        let Ok(reached) = reached.clone() else {
+            return Err(AllocError);
+        };
+        self.under_way.push(UnderWay {
+            number,
+            name: shown_name(system.alloc(), name)?,
+            size,
+            reached,
+            start: system.moment(),
+        })?;
+        Ok(())
+    }
+}
+
+/// How far a file has come, over all tries. It is told places in the file.
 #[derive(Drop)]
 pub struct Went<'r> {
     all: &'r AtomicU64,
-    begin: u64,
+    number: u64,
+    // none where there was no memory
+    reached: Option<Arc<Reached, Global>>,
     counted: u64,
 }
 
-impl<'r> Went<'r> {
-    /// Nothing of a file has come yet.
-    pub(crate) fn new(report: &'r Report) -> Went<'r> {
-        Went {
-            all: &report.went,
-            begin: 0,
-            counted: 0,
+impl Went<'_> {
+    /// A try begins at this place.
+    pub(crate) fn begin(&mut self, place: u64) {
+        if let Some(reached) = &self.reached {
+            reached.begin(place);
         }
-    }
-
-    /// A try begins at this offset.
-    pub(crate) fn begin(&mut self, offset: u64) {
-        self.begin = offset;
-        self.reach(offset);
+        self.reach(place);
     }
 
     /// So many bytes of the file are there. Those that were counted in an earlier try aren't counted again.
     fn reach(&mut self, place: u64) {
+        if let Some(reached) = &self.reached {
+            reached.reach(place);
+        }
         if place > self.counted {
             self.all.fetch_add(place - self.counted, Ordering::SeqCst);
             self.counted = place;
@@ -216,6 +321,6 @@ impl<'r> Went<'r> {
 
 impl Progress for Went<'_> {
     fn went(&mut self, so_far: u64) {
-        self.reach(self.begin.saturating_add(so_far));
+        self.reach(so_far);
     }
 }

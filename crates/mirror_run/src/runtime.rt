@@ -6,8 +6,8 @@ use crate::report::Went;
 use crate::system::{Change, Connection, System};
 use crate::task::Site;
 use crate::{here, there};
-use ftp_base::status::Status;
 use ftp_base::types::{FtpError, FtpResult};
+use ftp_shared::FromOffset;
 use std::alloc::Global;
 use std::fs::OpenOptions;
 use std::io::{Seek, SeekFrom};
@@ -57,7 +57,7 @@ impl<
     }
 
     fn draw(&self, text: &str) {
-        let _ = print!(self; "\r{text}\x1b[K");
+        let _ = print!(self; "{text}");
     }
 
     fn pause(&self, time: Duration) {
@@ -140,22 +140,15 @@ impl<
         if !connection.has_mfmt {
             return Ok(());
         }
-        let Some(line) = there::mfmt_of(Alloc::alloc(self), path, seconds) else {
+        let Some(time) = there::time_of(seconds) else {
             return Ok(());
         };
-        match connection
-            .client
-            .custom_command(self, line.as_str(), &[Status::File])
-        {
+        match connection.client.set_modified(self, path, time) {
             Err(FtpError::UnexpectedResponse(reply)) => {
                 drop(reply);
                 Ok(())
             }
-            Ok(reply) => {
-                drop(reply);
-                Ok(())
-            }
-            Err(fault) => Err(Problem::of_server(Alloc::alloc(self), fault)),
+            other => of_server(Alloc::alloc(self), other),
         }
     }
 
@@ -178,12 +171,10 @@ impl<
             Ok(file) => file,
             Err(error) => return Err(Problem::of_file(alloc, into, error)),
         };
-        if offset > 0 {
-            of_server(alloc, connection.client.resume_transfer(self, offset))?;
-        }
+        let client = &connection.client;
         of_server(
             alloc,
-            connection.client.write_to(self, source, &mut file, went),
+            client.download_to(self, source, &mut file, offset, went),
         )
     }
 
@@ -207,7 +198,11 @@ impl<
         if let Err(error) = file.seek(SeekFrom::Start(offset)) {
             return Err(Problem::of_file(alloc, source, error));
         }
-        of_server(alloc, client.append_file_with(self, into, &mut file, went))
+        let mut went = FromOffset::new(offset, went);
+        of_server(
+            alloc,
+            client.append_file_with(self, into, &mut file, &mut went),
+        )
     }
 
     fn list_here(&self, path: &str) -> Result<Listed, Problem> {

@@ -1,7 +1,7 @@
 //! The tree of the server.
 
 use crate::listed::{Listed, Place};
-use crate::mirror::Mirror;
+use crate::mirror::{Mirror, Work};
 use crate::problem::{Problem, may_pass};
 use crate::system::System;
 use crate::trees::{DEPTH, Growing};
@@ -18,6 +18,12 @@ type Done = (Place, Result<Listed, Problem>);
 struct Level {
     left: Mutex<Vec<Place>>,
     done: Mutex<Vec<Done>>,
+}
+
+impl Work for Level {
+    fn is_begun<S: System>(&self, system: &S) -> bool {
+        self.left.lock(system).is_empty()
+    }
 }
 
 /// What stands below the server's folder, listed by all connections at once.
@@ -58,8 +64,11 @@ fn listed_of<S: System + Threads + Sync>(
     };
     let shared = &level;
     thread::scope(thread::scope_env(), system, |scope| {
-        for _ in 1..mirror.task.jobs {
-            let _ = scope.spawn(move || list_some(system, mirror, shared));
+        for number in 1..mirror.task.jobs {
+            let _ = scope.spawn(move || {
+                mirror.wait_to_help(system, number, shared);
+                list_some(system, mirror, shared);
+            });
         }
         list_some(system, mirror, shared);
     });

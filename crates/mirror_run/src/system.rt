@@ -47,7 +47,7 @@ pub trait System: Wait {
     /// Prints a line on standard error.
     fn complain(&self, line: &str);
 
-    /// Draws a text in place of the line that the cursor stands in.
+    /// Writes a text to the terminal as it is, with what moves the cursor.
     fn draw(&self, text: &str);
 
     /// Waits so long.

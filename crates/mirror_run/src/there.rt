@@ -5,11 +5,12 @@ use crate::problem::Problem;
 use crate::system::{Client, Connection};
 use crate::task::Site;
 use ftp_base::encoding::Latin1Encoding;
-use ftp_base::types::{Features, FileType, FtpError, FtpResult, Mode};
-use ftp_list::{File, Listing, is_plain_name, names_facts};
+use ftp_base::types::{Features, FtpError, FtpResult, Mode};
+use ftp_list::{File, Listing, is_plain_name};
+use ftp_shared::{ConnectOptions, UTF8, has_facts, has_feature};
 use jiff::Timestamp;
 use jiff::civil::DateTime;
-use jiff::tz::TimeZone;
+use jiff::tz::{Offset, TimeZone};
 use std::alloc::{AllocError, Global};
 use std::net::{Net, TcpListener, TcpStream};
 use std::sync::Wait;
@@ -23,14 +24,7 @@ pub fn connect<R>(rt: &R, site: &Site) -> FtpResult<Connection>
 where
     R: Net<Listener = TcpListener, Stream = TcpStream> + Clock + Wait + AllocGlobal,
 {
-    let client = Client::connect_to_within(rt, site.address.as_str(), site.limit)?;
-    if site.is_lenient {
-        client.set_lenient_replies(rt, true);
-    }
-    if site.is_active {
-        client.set_mode(rt, Mode::Active);
-    }
-    client.login(rt, site.user.as_str(), site.password.as_str())?;
+    let client = Client::connect_with(rt, &options_of(rt.alloc(), site)?)?;
     let features = match client.feat(rt) {
         Ok(features) => Some(features),
         Err(FtpError::UnexpectedResponse(reply)) => {
@@ -40,9 +34,8 @@ where
         Err(fault) => return Err(fault),
     };
     settle_names(rt, site, &client, &features)?;
-    client.transfer_type(rt, FileType::Binary)?;
     let (lists_facts, has_mfmt) = match &features {
-        Some(features) => (lists_facts(features), names(features, "MFMT")),
+        Some(features) => (has_facts(features), has_feature(features, "MFMT")),
         None => (false, false),
     };
     Ok(Connection {
@@ -50,6 +43,21 @@ where
         lists_facts,
         has_mfmt,
     })
+}
+
+/// How a client of a site is made.
+///
+/// # Errors
+/// `AllocError`.
+fn options_of(alloc: Global, site: &Site) -> Result<ConnectOptions, AllocError> {
+    let (user, password) = (site.user.as_str(), site.password.as_str());
+    let mut options = ConnectOptions::new(alloc, site.address.as_str(), user, password)?;
+    options.set_limit(site.limit);
+    options.set_lenient_replies(site.is_lenient);
+    if site.is_active {
+        options.set_mode(Mode::Active);
+    }
+    Ok(options)
 }
 
 /// Has the server send names as they are read here: a byte a character, or UTF-8 (RFC 2640) where it says that it has that,
@@ -67,29 +75,17 @@ where
         return client.set_encoding(rt, Latin1Encoding);
     }
     if let Some(features) = features {
-        if !names(features, "UTF8") {
+        if !has_feature(features, UTF8) {
             return Ok(());
         }
     }
-    match client.opts(rt, "UTF8", Some("ON")) {
+    match client.opts(rt, UTF8, Some("ON")) {
         Err(FtpError::UnexpectedResponse(reply)) => {
             drop(reply);
             Ok(())
         }
         other => other,
     }
-}
-
-/// Whether these are features by which a server has `MLSD`.
-fn lists_facts(features: &Features) -> bool {
-    features
-        .iter()
-        .any(|(name, _value)| names_facts(name.as_str()))
-}
-
-/// Whether a feature is among these, in any case of letters.
-fn names(features: &Features, wanted: &str) -> bool {
-    features.iter().any(|(name, _value)| name.as_str().eq_ignore_ascii_case(wanted))
 }
 
 /// The listing of a folder of the server: by `MLSD`, or else by `LIST`.
@@ -199,9 +195,10 @@ fn seconds_of(time: DateTime) -> Option<i64> {
     }
 }
 
-/// The line that sets a file's time, where the time has one.
-pub fn mfmt_of(alloc: Global, path: &str, seconds: i64) -> Option<String> {
-    let time = Timestamp::from_second(seconds).ok()?;
-    let text = time.strftime(alloc, "%Y%m%d%H%M%S").ok()?;
-    format!(in alloc; "MFMT {text} {path}").ok()
+/// The date and time of UTC that is so many seconds after 1970 (RFC 3659, section 2.3).
+pub fn time_of(seconds: i64) -> Option<DateTime> {
+    match Timestamp::from_second(seconds) {
+        Ok(time) => Some(Offset::UTC.to_datetime(time)),
+        Err(_) => None,
+    }
 }

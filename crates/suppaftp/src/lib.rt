@@ -28,6 +28,7 @@ pub use ftp_list as list;
 pub use ftp_list::{File, FileType as EntryKind, ListParser, Listing, OtherFile};
 pub use ftp_secure::{DataStream, Secured, TlsConnector, TlsStream};
 pub use ftp_session::session::{DownloadReader, Failure};
+pub use ftp_shared::{ConnectOptions, PassedOver, Place, PlaceName, Visitor, WalkLimits};
 pub use ftp_transfer::{NoProgress, Progress, mark};
 pub use ftp_transport::{PassiveStreamBuilder, TcpTransport};
 pub use host::Host;

@@ -4,10 +4,10 @@
 //! before that is polled. A future that waits may be dropped.
 
 pub use ftp_polled::{
-    Abort, Adjust, AllowStdIo, Connect, ControlSocket, Dialogue, Failed, Finish, FromAnswer,
-    ImplAsyncFtpStream, LastFailure, Lines, ListEntries, ListFiles, Lock, OpenTransfer,
-    OpenWithReply, ReadReply, RetrReader, Retrieve, Secure, Settle, Sink, StreamLines,
-    TransferStream, Upload, Welcome, WriteTo,
+    Abort, Adjust, AllowStdIo, Connect, ConnectWith, ControlSocket, Dialogue, DownloadTo, Failed,
+    Finish, FromAnswer, ImplAsyncFtpStream, LastFailure, Lines, ListEntries, ListFiles, Lock,
+    OpenTransfer, OpenWithReply, ReadReply, RetrReader, Retrieve, Secure, Settle, Sink,
+    StreamLines, TransferStream, Upload, UseUtf8, Walking, Welcome, WriteTo,
 };
 pub use ftp_secure::{AsyncNoTlsStream, AsyncTlsConnector, AsyncTlsStream};
 pub use ftp_tokio::{TokioConn, TokioListener, TokioTransport};

@@ -13,6 +13,8 @@ mod broken_data;
 mod clients;
 pub mod device;
 #[cfg(test)]
+mod downloads;
+#[cfg(test)]
 mod dropped;
 #[cfg(test)]
 mod failing;
@@ -28,6 +30,8 @@ mod handed;
 mod limits;
 #[cfg(test)]
 mod listings;
+#[cfg(test)]
+mod made_anew;
 #[cfg(test)]
 mod memory_scene;
 #[cfg(test)]
@@ -52,3 +56,7 @@ mod sources;
 mod strangers;
 #[cfg(test)]
 mod transfers;
+#[cfg(test)]
+mod utf8;
+#[cfg(test)]
+mod walking;

@@ -8,11 +8,15 @@ mod counted;
 #[cfg(test)]
 mod cuts;
 #[cfg(test)]
+mod downloads;
+#[cfg(test)]
 mod dropped;
 #[cfg(test)]
 mod limits;
 #[cfg(test)]
 mod listings;
+#[cfg(test)]
+mod made_anew;
 #[cfg(test)]
 mod saving;
 #[cfg(test)]
@@ -23,5 +27,9 @@ mod settings;
 mod surface;
 #[cfg(test)]
 mod transfers;
+#[cfg(test)]
+mod utf8;
+#[cfg(test)]
+mod walking;
 #[cfg(test)]
 mod writers;

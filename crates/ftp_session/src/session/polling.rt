@@ -9,6 +9,7 @@ ghost use Rattle.futures.specs.declared.task.Poll.TheVariants as poll;
 ghost use Rattle.ftp_dialogue.specs.Coding.{chosen, coding_of};
 ghost use Rattle.ftp_dialogue.specs.Link.{asking, built_by, polling};
 ghost use Rattle.ftp_dialogue.specs.Promises.{failed_from};
+ghost use Rattle.ftp_dialogue.specs.State.{with_settings};
 ghost use Rattle.ftp_dialogue.specs.Steps.Moving.{withheld};
 ghost use Rattle.ftp_dialogue.specs.Steps.Polls.{StageIn, StartsTo};
 ghost use Rattle.ftp_calls.specs.Exchanges.{is_local};
@@ -154,6 +155,9 @@ pub trait DropsCalls {
     /// A whole file met this error. Where it is one of input or output the data connection failed, or what the caller
     /// handed in, which `last_failure` returns from then on.
     fn note_failure(&mut self, fault: &FtpError, data_failed: bool);
+
+    /// The offset that was set for the next transfer is taken back.
+    fn forget_offset(&mut self);
 }
 
 impl<
@@ -268,6 +272,16 @@ impl<Tr: Network, K: Drop, E: Encoding, B: Drop> DropsCalls for Session<Tr, K, E
         if let FtpError::ConnectionError(ConnectionError::Io(_)) = fault {
             self.machine.note_failure(!data_failed);
         }
+    }
+
+    /// The offset that was set for the next transfer is taken back. Nothing else changes.
+    fn forget_offset(&mut self)
+        ensures taken { self.new.machine ≡
+            with_settings (λ s. record s { restart_offset = 0 }) self.old.machine }
+        ensures mark { self.new.mark ≡ self.old.mark }
+        ensures keeps { Keeps self.old self.new }
+    {
+        self.machine.state.settings.restart_offset = 0;
     }
 }
 

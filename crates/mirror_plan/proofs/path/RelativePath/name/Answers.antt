@@ -3,4 +3,4 @@ use Rattle.mirror_plan.proofs.PathFacts.{parent_of_last}
 use Rattle.mirror_plan.proofs.path.RelativePath.name.Goals as goal
 
 pub returns : goal.returns
-returns c = grind (arith, parent_of_last c.args.self.now c.index.result.now)
+returns c = grind (arith, parent_of_last c.args.self.now c.index-names-names.result)
