@@ -1,5 +1,5 @@
 -- Places below the root of a walk.
-use Rattle.std.specs.Prelude.{ℕ, Bool, ◌||◌, ◌==◌, if◌then◌else◌, List, [], ◌∷◌, ◌++◌, length}
+use Rattle.std.specs.Prelude.{◌≡◌, ℕ, ◌<◌, ◌≤◌, Bool, ◌||◌, ◌==◌, if◌then◌else◌, Option, Some, None, List, [], ◌∷◌, ◌++◌, length}
 use Rattle.std.specs.List.{list_all, ends_with}
 use Rattle.ftp_list.specs.Names.{is_plain_name}
 
@@ -19,3 +19,30 @@ entered folder = if length folder == 0 || ends_with ◌==◌ folder (47 ∷ []) 
 abbrev pub joined : List ℕ → Names → List ℕ
 joined folder [] = folder
 joined folder (name ∷ names) = joined (entered folder ++ name) names
+
+-- the path by which the root of a walk is listed: an empty one is the current directory
+abbrev pub listed_as : List ℕ → List ℕ
+listed_as path = if length path == 0 then 46 ∷ [] else path
+
+-- each of these lies too deep
+abbrev pub AreDeep : ℕ → List Names → Type 0
+AreDeep levels [] = Unit {0}
+AreDeep levels (place ∷ places) = (levels ≤ length place) × AreDeep levels places
+
+-- of the folders that are left to list the last that doesn't lie too deep is next, and those before it stay; or none is left
+abbrev pub IsNext : ℕ → List Names → Option Names → List Names → Type 0
+IsNext levels folders (Some next) left = (deep : List Names) × (folders ≡ left ++ next ∷ deep) × (length next < levels) × AreDeep levels deep
+IsNext levels folders None left = (left ≡ []) × AreDeep levels folders
+
+-- a name in this folder
+abbrev pub IsIn : Names → Names → Type 0
+IsIn folder place = (name : List ℕ) × (place ≡ folder ++ name ∷ [])
+
+-- each of these is
+abbrev pub AreIn : Names → List Names → Type 0
+AreIn folder [] = Unit {0}
+AreIn folder (place ∷ places) = IsIn folder place × AreIn folder places
+
+-- folders in this one are listed before those that were left before
+abbrev pub Enters : Names → List Names → List Names → Type 0
+Enters folder before after = (entered : List Names) × (after ≡ before ++ entered) × AreIn folder entered

@@ -1,6 +1,6 @@
 //! The order of a walk: which folder is listed next, what is entered, and where a walk ends. It lists nothing itself.
-ghost use Rattle.std.specs.Prelude.{◌≡◌, ◌<◌, ◌+◌, length, IfOk, IfSome, string_bytes};
-ghost use Rattle.ftp_shared.specs.Places.{joined};
+ghost use Rattle.std.specs.Prelude.{◌≡◌, ◌++◌, [], ◌∷◌, IfOk, IfSome, string_bytes};
+ghost use Rattle.ftp_shared.specs.Places.{Enters, IsIn, IsNext, joined, listed_as};
 
 use crate::place::Place;
 use crate::visitor::{PassedOver, Visitor};
@@ -40,7 +40,11 @@ impl Walk {
     ///
     /// # Errors
     /// `AllocError`.
-    pub fn new(alloc: Global, root: &str, limits: WalkLimits) -> Result<Walk, AllocError> {
+    pub fn new(alloc: Global, root: &str, limits: WalkLimits) -> Result<Walk, AllocError>
+        ensures folders { IfOk result (λ walk. walk.folders.items ≡ [] ∷ []) }
+        ensures limits { IfOk result (λ walk. walk.limits ≡ limits) }
+        ensures root { IfOk result (λ walk. string_bytes walk.root ≡ listed_as root.now) }
+    {
         let mut folders = Vec::new(alloc);
         folders.push(Place::root(alloc))?;
         let root = if root.is_empty() { "." } else { root };
@@ -56,14 +60,13 @@ impl Walk {
     /// # Errors
     /// The visitor's.
     pub fn next_folder<V: Visitor>(&mut self, visitor: &mut V) -> FtpResult<Option<Place>>
-        ensures { IfOk result (λ next. IfSome next (λ folder.
-            length folder < self.old.limits.levels)) }
+        ensures next { IfOk result (λ next. IsNext self.old.limits.levels self.old.folders.items
+            next self.new.folders.items) }
+        ensures limits { self.new.limits ≡ self.old.limits }
+        ensures root { self.new.root ≡ self.old.root }
     {
         let levels = self.limits.levels;
-        for _ in 0..u64::MAX {
-            let Some(folder) = self.folders.pop() else {
-                break;
-            };
+        while let Some(folder) = self.folders.pop() {
             if folder.depth() < levels {
                 return Ok(Some(folder));
             }
@@ -93,7 +96,12 @@ impl Walk {
         folder: &Place,
         listing: &Listing,
         visitor: &mut V,
-    ) -> FtpResult<()> {
+    ) -> FtpResult<()>
+        ensures entered { IfOk result (λ _. Enters folder.now self.old.folders.items
+            self.new.folders.items) }
+        ensures limits { self.new.limits ≡ self.old.limits }
+        ensures root { self.new.root ≡ self.old.root }
+    {
         let most = self.limits.entries;
         let mut entered = Vec::new(alloc);
         for entry in listing.files.iter().take(most) {
@@ -102,8 +110,7 @@ impl Walk {
             }
         }
         pass_over(folder, listing, most, visitor)?;
-        entered.reverse();
-        for place in entered {
+        while let Some(place) = entered.pop() {
             keep(&mut self.folders, place)?;
         }
         Ok(())
@@ -133,8 +140,7 @@ fn shown<V: Visitor>(
     entry: &File,
     visitor: &mut V,
 ) -> FtpResult<Option<Place>>
-    ensures { IfOk result (λ shown. IfSome shown (λ place.
-        length place ≡ length folder.now + 1)) }
+    ensures { IfOk result (λ shown. IfSome shown (IsIn folder.now)) }
 {
     let Some(place) = folder.child(alloc, entry.name())? else {
         visitor.passed_over(folder, PassedOver::NotPlain(entry))?;
@@ -172,7 +178,9 @@ fn pass_over<V: Visitor>(
 }
 
 /// Adds a folder to others.
-fn keep(folders: &mut Vec<Place>, place: Place) -> Result<(), AllocError> {
+fn keep(folders: &mut Vec<Place>, place: Place) -> Result<(), AllocError>
+    ensures { IfOk result (λ _. folders.new.items ≡ folders.old.items ++ place ∷ []) }
+{
     folders.push(place)?;
     Ok(())
 }

@@ -29,7 +29,7 @@ impl Then {
     fn limit(self) -> u64 {
         match self {
             Then::Ends | Then::Resets => 10_000,
-            Then::Stops => 200,
+            Then::Stops => 400,
         }
     }
 }
