@@ -1,5 +1,8 @@
 //! How a client is made, as often as one is needed.
 
+ghost use Rattle.std.specs.Prelude.{◌≡◌, IfOk, Some, string_bytes};
+ghost use Rattle.ftp_shared.specs.Options.{AreNew};
+
 use ftp_base::types::{FileType, Mode};
 use std::alloc::{AllocError, Global};
 use std::time::Duration;
@@ -32,7 +35,9 @@ impl ConnectOptions {
         address: &str,
         user: &str,
         password: &str,
-    ) -> Result<ConnectOptions, AllocError> {
+    ) -> Result<ConnectOptions, AllocError>
+        ensures { IfOk result (λ options. AreNew options address.now user.now password.now) }
+    {
         Ok(ConnectOptions {
             address: String::from_str(alloc, address)?,
             user: String::from_str(alloc, user)?,
@@ -46,67 +51,93 @@ impl ConnectOptions {
     }
 
     /// None of the client's waits for the server is longer than this, as of `connect_to_within`.
-    pub fn set_limit(&mut self, limit: Duration) {
+    pub fn set_limit(&mut self, limit: Duration)
+        ensures { self.new ≡ record self.old { limit = Some limit } }
+    {
         self.limit = Some(limit);
     }
 
     /// Who opens data connections, and how they are asked for (RFC 959, section 3.2; RFC 2428).
-    pub fn set_mode(&mut self, mode: Mode) {
+    pub fn set_mode(&mut self, mode: Mode)
+        ensures { self.new ≡ record self.old { mode = mode } }
+    {
         self.mode = mode;
     }
 
     /// The type of data: `TYPE` (RFC 959, section 4.1.2).
-    pub fn set_file_type(&mut self, file_type: FileType) {
+    pub fn set_file_type(&mut self, file_type: FileType)
+        ensures { self.new ≡ record self.old { file_type = file_type } }
+    {
         self.file_type = file_type;
     }
 
     /// Whether replies are read leniently, from the greeting on (`ReplyRule::Lenient`).
-    pub fn set_lenient_replies(&mut self, lenient: bool) {
+    pub fn set_lenient_replies(&mut self, lenient: bool)
+        ensures { self.new ≡ record self.old { lenient = lenient } }
+    {
         self.lenient = lenient;
     }
 
     /// Whether the server is asked to send names in UTF-8, as by `use_utf8`.
-    pub fn set_utf8(&mut self, utf8: bool) {
+    pub fn set_utf8(&mut self, utf8: bool)
+        ensures { self.new ≡ record self.old { utf8 = utf8 } }
+    {
         self.utf8 = utf8;
     }
 
     /// Where the client connects.
-    pub fn address(&self) -> &str {
+    pub fn address(&self) -> &str
+        ensures { result.now ≡ string_bytes self.now.address }
+    {
         self.address.as_str()
     }
 
     /// As whom it logs in.
-    pub fn user(&self) -> &str {
+    pub fn user(&self) -> &str
+        ensures { result.now ≡ string_bytes self.now.user }
+    {
         self.user.as_str()
     }
 
     /// The password, which is sent where the server asks for one.
-    pub fn password(&self) -> &str {
+    pub fn password(&self) -> &str
+        ensures { result.now ≡ string_bytes self.now.password }
+    {
         self.password.as_str()
     }
 
     /// The limit of a wait, if there is one.
-    pub fn limit(&self) -> Option<Duration> {
+    pub fn limit(&self) -> Option<Duration>
+        ensures { result ≡ self.now.limit }
+    {
         self.limit
     }
 
     /// Who opens data connections.
-    pub fn mode(&self) -> Mode {
+    pub fn mode(&self) -> Mode
+        ensures { result ≡ self.now.mode }
+    {
         self.mode
     }
 
     /// The type of data.
-    pub fn file_type(&self) -> &FileType {
+    pub fn file_type(&self) -> &FileType
+        ensures { result.now ≡ self.now.file_type }
+    {
         &self.file_type
     }
 
     /// Whether replies are read leniently.
-    pub fn is_lenient(&self) -> bool {
+    pub fn is_lenient(&self) -> bool
+        ensures { result ≡ self.now.lenient }
+    {
         self.lenient
     }
 
     /// Whether the server is asked to send names in UTF-8.
-    pub fn uses_utf8(&self) -> bool {
+    pub fn uses_utf8(&self) -> bool
+        ensures { result ≡ self.now.utf8 }
+    {
         self.utf8
     }
 }

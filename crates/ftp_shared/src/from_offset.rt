@@ -1,5 +1,7 @@
 //! A progress that begins at an offset.
 
+ghost use Rattle.std.specs.Prelude.{◌≡◌};
+
 use ftp_transfer::Progress;
 
 /// Reports the place in a file, of a transfer that begins at an offset: the offset and what has gone since.
@@ -11,7 +13,9 @@ pub struct FromOffset<P: Progress> {
 
 impl<P: Progress> FromOffset<P> {
     /// Reports to this progress, of a transfer that begins at this offset, in bytes.
-    pub fn new(offset: u64, progress: P) -> FromOffset<P> {
+    pub fn new(offset: u64, progress: P) -> FromOffset<P>
+        ensures { result ≡ record { offset = offset; progress = progress } }
+    {
         FromOffset { offset, progress }
     }
 }

@@ -19,7 +19,9 @@ pub struct WalkLimits {
 
 impl Default for WalkLimits {
     /// 64 levels, and 1,000,000 entries of each folder.
-    fn default() -> WalkLimits {
+    fn default() -> WalkLimits
+        ensures { result ≡ record { levels = 64; entries = 1000000 } }
+    {
         WalkLimits {
             levels: 64,
             entries: 1_000_000,
