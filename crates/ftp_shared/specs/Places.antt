@@ -1,6 +1,8 @@
 -- Places below the root of a walk.
-use Rattle.std.specs.Prelude.{◌≡◌, ℕ, ◌<◌, ◌≤◌, Bool, ◌||◌, ◌==◌, if◌then◌else◌, Option, Some, None, List, [], ◌∷◌, ◌++◌, length}
+use Rattle.std.specs.Prelude.{◌≡◌, ℕ, ◌<◌, ◌≤◌, ◌⊎◌, Bool, ◌&&◌, ◌||◌, ◌==◌, if◌then◌else◌, Option, Some, None, List, [], ◌∷◌, ◌++◌, length, reverse}
 use Rattle.std.specs.List.{list_all, ends_with}
+use Rattle.ftp_list.specs.Entry.{Entry}
+use Rattle.ftp_list.specs.FileTypes.{is_directory}
 use Rattle.ftp_list.specs.Names.{is_plain_name}
 
 -- names, the outermost first; those of the root are []
@@ -34,15 +36,18 @@ abbrev pub IsNext : ℕ → List Names → Option Names → List Names → Type 
 IsNext levels folders (Some next) left = (deep : List Names) × (folders ≡ left ++ next ∷ deep) × (length next < levels) × AreDeep levels deep
 IsNext levels folders None left = (left ≡ []) × AreDeep levels folders
 
--- a name in this folder
-abbrev pub IsIn : Names → Names → Type 0
-IsIn folder place = (name : List ℕ) × (place ≡ folder ++ name ∷ [])
+-- the places of the folders that these entries of a folder's listing are, in their order; a name that isn't plain has none
+unfoldable pub folders_among : Names → List Entry → List Names
+folders_among folder [] = []
+folders_among folder (entry ∷ entries) =
+    (if is_directory entry.file_type && is_plain_name entry.name then (folder ++ entry.name ∷ []) ∷ [] else []) ++ folders_among folder entries
 
--- each of these is
-abbrev pub AreIn : Names → List Names → Type 0
-AreIn folder [] = Unit {0}
-AreIn folder (place ∷ places) = IsIn folder place × AreIn folder places
+-- some of these places, each once, in their order
+abbrev pub AreSomeOf : List Names → List Names → Type 0
+AreSomeOf [] places = Unit {0}
+AreSomeOf (one ∷ others) [] = ⊥
+AreSomeOf (one ∷ others) (place ∷ places) = ((one ≡ place) × AreSomeOf others places) ⊎ AreSomeOf (one ∷ others) places
 
--- folders in this one are listed before those that were left before
-abbrev pub Enters : Names → List Names → List Names → Type 0
-Enters folder before after = (entered : List Names) × (after ≡ before ++ entered) × AreIn folder entered
+-- some of the folders that a listing has are listed before those that were left before, the first of them first
+abbrev pub Enters : Names → List Entry → List Names → List Names → Type 0
+Enters folder listing before after = (entered : List Names) × (after ≡ before ++ reverse entered) × AreSomeOf entered (folders_among folder listing)

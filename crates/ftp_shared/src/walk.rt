@@ -1,6 +1,6 @@
 //! The order of a walk: which folder is listed next, what is entered, and where a walk ends. It lists nothing itself.
-ghost use Rattle.std.specs.Prelude.{◌≡◌, ◌++◌, [], ◌∷◌, IfOk, IfSome, string_bytes};
-ghost use Rattle.ftp_shared.specs.Places.{Enters, IsIn, IsNext, joined, listed_as};
+ghost use Rattle.std.specs.Prelude.{◌≡◌, ◌++◌, [], ◌∷◌, IfOk, IfSome, string_bytes, take};
+ghost use Rattle.ftp_shared.specs.Places.{Enters, IsNext, folders_among, joined, listed_as};
 
 use crate::place::Place;
 use crate::visitor::{PassedOver, Visitor};
@@ -99,14 +99,16 @@ impl Walk {
         listing: &Listing,
         visitor: &mut V,
     ) -> FtpResult<()>
-        ensures entered { IfOk result (λ _. Enters folder.now self.old.folders.items
+        ensures entered { IfOk result (λ _. Enters folder.now
+            (take self.old.limits.entries listing.now.files.items) self.old.folders.items
             self.new.folders.items) }
         ensures limits { self.new.limits ≡ self.old.limits }
         ensures root { self.new.root ≡ self.old.root }
     {
-        let most = self.limits.entries;
+        let most = self.limits.entries.min(listing.files.len());
+        let entries = &listing.files[..most];
         let mut entered = Vec::new(alloc);
-        for entry in listing.files.iter().take(most) {
+        for entry in entries {
             if let Some(place) = shown(alloc, folder, entry, visitor)? {
                 keep(&mut entered, place)?;
             }
@@ -142,7 +144,8 @@ fn shown<V: Visitor>(
     entry: &File,
     visitor: &mut V,
 ) -> FtpResult<Option<Place>>
-    ensures { IfOk result (λ shown. IfSome shown (IsIn folder.now)) }
+    ensures { IfOk result (λ shown. IfSome shown (λ place.
+        folders_among folder.now (entry.now ∷ []) ≡ place ∷ [])) }
 {
     let Some(place) = folder.child(alloc, entry.name())? else {
         visitor.passed_over(folder, PassedOver::NotPlain(entry))?;

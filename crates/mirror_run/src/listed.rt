@@ -32,7 +32,7 @@ pub struct Listed {
 
 /// A folder that is to be listed.
 #[derive(Drop)]
-pub struct Place {
+pub struct FolderToList {
     pub number: usize,
     // none for the root
     pub path: Option<RelativePath>,
@@ -41,10 +41,10 @@ pub struct Place {
     pub is_linked: bool,
 }
 
-impl Place {
+impl FolderToList {
     /// The root of a tree.
-    pub fn root() -> Place {
-        Place {
+    pub fn root() -> FolderToList {
+        FolderToList {
             number: 0,
             path: None,
             is_link: false,
@@ -64,11 +64,11 @@ impl Place {
 /// The path of a name in a folder, if the name is plain.
 pub fn path_of(
     alloc: Global,
-    place: &Place,
+    folder: &FolderToList,
     name: &str,
 ) -> Result<Option<RelativePath>, AllocError> {
-    let path = match &place.path {
-        Some(folder) => folder.child(alloc, name),
+    let path = match &folder.path {
+        Some(path) => path.child(alloc, name),
         None => RelativePath::of_name(alloc, name),
     };
     match path {

@@ -1,6 +1,6 @@
 //! The tree here.
 
-use crate::listed::{Listed, Place};
+use crate::listed::{FolderToList, Listed};
 use crate::mirror::Mirror;
 use crate::problem::Problem;
 use crate::system::System;
@@ -14,16 +14,16 @@ use mirror_plan::Tree;
 pub fn local_tree<S: System>(system: &S, mirror: &Mirror<'_>) -> Result<Tree, Problem> {
     let mut growing = Growing::new(system.alloc())?;
     let root = list_root(system, mirror)?;
-    growing.fill(system, mirror, &Place::root(), root)?;
+    growing.fill(system, mirror, &FolderToList::root(), root)?;
     for _ in 1..DEPTH {
         let level = growing.next_level(system.alloc());
         if level.is_empty() {
             break;
         }
-        for place in &level {
-            let path = place.below(system.alloc(), mirror.task.local.as_str())?;
+        for folder in &level {
+            let path = folder.below(system.alloc(), mirror.task.local.as_str())?;
             let listed = system.list_here(path.as_str())?;
-            growing.fill(system, mirror, place, listed)?;
+            growing.fill(system, mirror, folder, listed)?;
         }
     }
     growing.into_tree(system, mirror)

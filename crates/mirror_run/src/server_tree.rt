@@ -1,6 +1,6 @@
 //! The tree of the server.
 
-use crate::listed::{Listed, Place};
+use crate::listed::{FolderToList, Listed};
 use crate::mirror::{Mirror, Work};
 use crate::problem::{Problem, may_pass};
 use crate::system::System;
@@ -11,12 +11,12 @@ use std::thread;
 use std::thread::Threads;
 
 /// A folder that was listed, and what came of it.
-type Done = (Place, Result<Listed, Problem>);
+type Done = (FolderToList, Result<Listed, Problem>);
 
 /// Folders that are to be listed, and those that were.
 #[derive(Drop)]
 struct Level {
-    left: Mutex<Vec<Place>>,
+    left: Mutex<Vec<FolderToList>>,
     done: Mutex<Vec<Done>>,
 }
 
@@ -36,16 +36,16 @@ pub fn server_tree<S: System + Threads + Sync>(
 ) -> Result<Tree, Problem> {
     let mut growing = Growing::new(system.alloc())?;
     let root = list(system, mirror, mirror.task.site.folder.as_str())?;
-    growing.fill(system, mirror, &Place::root(), root)?;
+    growing.fill(system, mirror, &FolderToList::root(), root)?;
     for _ in 1..DEPTH {
         let level = growing.next_level(system.alloc());
         if level.is_empty() {
             break;
         }
-        for (place, listed) in listed_of(system, mirror, level) {
+        for (folder, listed) in listed_of(system, mirror, level) {
             match listed {
-                Ok(listed) => growing.fill(system, mirror, &place, listed)?,
-                Err(problem) => growing.miss(system, mirror, &place, &problem)?,
+                Ok(listed) => growing.fill(system, mirror, &folder, listed)?,
+                Err(problem) => growing.miss(system, mirror, &folder, &problem)?,
             }
         }
     }
@@ -56,10 +56,10 @@ pub fn server_tree<S: System + Threads + Sync>(
 fn listed_of<S: System + Threads + Sync>(
     system: &S,
     mirror: &Mirror<'_>,
-    places: Vec<Place>,
+    folders: Vec<FolderToList>,
 ) -> Vec<Done> {
     let level = Level {
-        left: Mutex::new(places),
+        left: Mutex::new(folders),
         done: Mutex::new(Vec::new(system.alloc())),
     };
     let shared = &level;
@@ -81,11 +81,11 @@ fn listed_of<S: System + Threads + Sync>(
 fn list_some<S: System>(system: &S, mirror: &Mirror<'_>, level: &Level) {
     for _ in 0..u64::MAX {
         let next = level.left.lock(system).pop();
-        let Some(place) = next else {
+        let Some(folder) = next else {
             return;
         };
-        let listed = list_below(system, mirror, &place);
-        let _ = level.done.lock(system).push((place, listed));
+        let listed = list_below(system, mirror, &folder);
+        let _ = level.done.lock(system).push((folder, listed));
     }
 }
 
@@ -93,9 +93,9 @@ fn list_some<S: System>(system: &S, mirror: &Mirror<'_>, level: &Level) {
 fn list_below<S: System>(
     system: &S,
     mirror: &Mirror<'_>,
-    place: &Place,
+    folder: &FolderToList,
 ) -> Result<Listed, Problem> {
-    let path = place.below(system.alloc(), mirror.task.site.root())?;
+    let path = folder.below(system.alloc(), mirror.task.site.root())?;
     list(system, mirror, path.as_str())
 }
 

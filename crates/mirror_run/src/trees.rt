@@ -1,7 +1,7 @@
 //! Trees, listed level by level.
 
 use crate::filters::{is_excluded, is_mirrored};
-use crate::listed::{Kind, Listed, Place, path_of};
+use crate::listed::{FolderToList, Kind, Listed, path_of};
 use crate::mirror::Mirror;
 use crate::problem::Problem;
 use crate::system::System;
@@ -51,7 +51,7 @@ pub struct Growing {
     // By their numbers, the root first; none is listed of the last ones.
     folders: Vec<Folder>,
     // What is to be listed next.
-    level: Vec<Place>,
+    level: Vec<FolderToList>,
     linked: usize,
 }
 
@@ -71,7 +71,7 @@ impl Growing {
     }
 
     /// The folders that are to be listed next; they are no more kept here.
-    pub fn next_level(&mut self, alloc: Global) -> Vec<Place> {
+    pub fn next_level(&mut self, alloc: Global) -> Vec<FolderToList> {
         mem::replace(&mut self.level, Vec::new(alloc))
     }
 
@@ -84,16 +84,16 @@ impl Growing {
         &mut self,
         system: &S,
         mirror: &Mirror<'_>,
-        place: &Place,
+        folder: &FolderToList,
         listed: Listed,
     ) -> Result<(), Problem> {
         let alloc = system.alloc();
         let (is_whole, names) = sorted(system, mirror, listed)?;
         let mut entries = Vec::new(alloc);
         for (name, kind) in names {
-            match path_of(alloc, place, name.as_str())? {
+            match path_of(alloc, folder, name.as_str())? {
                 Some(path) => {
-                    let entry = self.begin(alloc, place, &path, kind)?;
+                    let entry = self.begin(alloc, folder, &path, kind)?;
                     entries.push((path, entry))?;
                 }
                 None => {
@@ -102,9 +102,9 @@ impl Growing {
                 }
             }
         }
-        if let Some(folder) = self.folders.get_mut(place.number) {
-            folder.is_whole = is_whole;
-            drop(mem::replace(&mut folder.entries, entries));
+        if let Some(known) = self.folders.get_mut(folder.number) {
+            known.is_whole = is_whole;
+            drop(mem::replace(&mut known.entries, entries));
         }
         Ok(())
     }
@@ -117,16 +117,16 @@ impl Growing {
         &mut self,
         system: &S,
         mirror: &Mirror<'_>,
-        place: &Place,
+        folder: &FolderToList,
         problem: &Problem,
     ) -> Result<(), Problem> {
-        if place.is_link && problem.is_refused() {
-            if let Some(folder) = self.folders.get_mut(place.number) {
-                folder.is_folder = false;
+        if folder.is_link && problem.is_refused() {
+            if let Some(known) = self.folders.get_mut(folder.number) {
+                known.is_folder = false;
             }
             return Ok(());
         }
-        let path = place.below(system.alloc(), ".")?;
+        let path = folder.below(system.alloc(), ".")?;
         mirror
             .report
             .leave(system, format!(in system.alloc(); "{path}: {problem}"));
@@ -137,7 +137,7 @@ impl Growing {
     fn begin(
         &mut self,
         alloc: Global,
-        place: &Place,
+        folder: &FolderToList,
         path: &RelativePath,
         kind: Kind,
     ) -> Result<Entry, AllocError> {
@@ -147,7 +147,7 @@ impl Growing {
             Kind::File(size, modified) => return Ok(Entry::File(size, modified)),
             Kind::Link | Kind::Other => return Ok(Entry::Other),
         };
-        let is_linked = is_link || place.is_linked;
+        let is_linked = is_link || folder.is_linked;
         if is_linked {
             if self.linked >= LINKED {
                 return Ok(Entry::Other);
@@ -156,7 +156,7 @@ impl Growing {
         }
         let number = self.folders.len();
         self.folders.push(Folder::unknown(alloc))?;
-        self.level.push(Place {
+        self.level.push(FolderToList {
             number,
             path: Some(path.clone()?),
             is_link,
@@ -175,8 +175,8 @@ impl Growing {
             level,
             linked: _,
         } = self;
-        for place in &level {
-            let path = place.below(system.alloc(), ".")?;
+        for folder in &level {
+            let path = folder.below(system.alloc(), ".")?;
             let line = format!(in system.alloc(); "{path}: more than {DEPTH} levels deep");
             mirror.report.leave(system, line);
         }
@@ -195,10 +195,10 @@ fn add(
     number: usize,
     depth: usize,
 ) -> Result<(), AllocError> {
-    let Some(place) = folders.get_mut(number) else {
+    let Some(folder) = folders.get_mut(number) else {
         return Ok(());
     };
-    let entries = mem::replace(&mut place.entries, Vec::new(alloc));
+    let entries = mem::replace(&mut folder.entries, Vec::new(alloc));
     for (path, entry) in entries {
         insert(tree, path, node_of(folders, entry))?;
         if let Entry::Folder(below) = entry {

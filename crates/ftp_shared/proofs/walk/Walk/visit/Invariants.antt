@@ -1,18 +1,16 @@
-use Rattle.std.proofs.Common.{◌≡◌, List, ◌++◌, length}
-use Rattle.ftp_shared.specs.Places.{Names, AreIn}
+use Rattle.std.proofs.Common.{◌≡◌, List, ◌++◌, drop, length, reverse, take}
+use Rattle.ftp_shared.specs.Places.{Names, AreSomeOf, folders_among}
 use Rattle.ftp_shared.proofs.walk.Walk.visit.Given as goal
 
--- what is entered so far stands in the folder
+-- what is entered so far is some of the folders among the entries so far
 abbrev pub invariant-loop-entry : goal.invariant-loop-entry
 invariant-loop-entry g l =
-    (goal.iterator-loop-entry g).can_next l.entry-iterator ×
-    (goal.iterator-loop-entry g).is_finite l.entry-iterator ×
-    AreIn l.fn.folder l.entered.items
+    (done : List Names) × (folders_among l.fn.folder l.entries ≡ done ++ folders_among l.fn.folder (drop l.entry-index l.entries)) × AreSomeOf l.entered.items done
 
--- what was moved so far, and what is left
+-- what was moved so far, and what is left, is all that is entered, the last first
 abbrev pub invariant-loop-place : goal.invariant-loop-place
 invariant-loop-place g l =
-    (added : List Names) × (l.self.folders.items ≡ l.fn.self.folders.items ++ added) × AreIn l.fn.folder added × AreIn l.fn.folder l.entered.items ×
+    (added : List Names) × (whole : List Names) × (l.self.folders.items ≡ l.fn.self.folders.items ++ added) × (reverse whole ≡ added ++ reverse l.entered.items) × AreSomeOf whole (folders_among l.fn.folder (take l.fn.self.limits.entries l.fn.listing.files.items)) ×
     (l.self.limits ≡ l.fn.self.limits) × (l.self.root ≡ l.fn.self.root)
 
 abbrev pub decreases-loop-place : goal.decreases-loop-place
