@@ -12,7 +12,7 @@ use Rattle.ftp_base.specs.Telnet.{escaped}
 use Rattle.ftp_base.specs.Wire.{line_of, unless, wire}
 use Rattle.ftp_base.specs.declared.command.Command.{Command}
 use Rattle.ftp_base.specs.declared.command.Command.TheVariants as command
-use Rattle.ftp_base.specs.declared.status.Status.TheVariants.{CommandOk, ExtendedPassiveMode, PassiveMode, RequestFilePending}
+use Rattle.ftp_base.specs.declared.status.Status.TheVariants.{CommandOk, PassiveMode, RequestFilePending}
 use Rattle.ftp_base.specs.declared.types.fault.ConnectionError.{ConnectionError as Cause}
 use Rattle.ftp_base.specs.declared.types.fault.ConnectionError.TheVariants as cause
 use Rattle.ftp_base.specs.declared.types.fault.FtpError.{FtpError}

@@ -9,7 +9,7 @@ use Rattle.ftp_base.specs.declared.types.fault.FtpError.{FtpError}
 use Rattle.ftp_base.specs.declared.types.fault.FtpError.TheVariants as faults
 use Rattle.ftp_base.specs.declared.types.mode.Mode.TheVariants as mode
 use Rattle.ftp_base.specs.declared.types.reply.Response.{Response}
-use Rattle.ftp_calls.specs.Addresses.{passive_address_of, extended_port_of}
+use Rattle.ftp_calls.specs.Addresses.{passive_address_of}
 use Rattle.ftp_calls.specs.Answers.{features_in, path_of, second_line_of, size_of}
 use Rattle.ftp_calls.specs.Exchanges.{Movements, aborts, ending_of, finishes, is_local, negotiates, own_row, row_of}
 use Rattle.ftp_calls.specs.Kinds.{IsPlain}

@@ -1,11 +1,10 @@
 -- Lemmas on a refusal of EPSV that is followed by PASV.
-use Rattle.std.proofs.Common.{◌≡◌, ◌<◌, ◌∙◌, ◌-◌, ℕ, Bool, true, Some, ap, sym, subst, refl, arith}
+use Rattle.std.proofs.Common.{◌≡◌, ◌<◌, ◌∙◌, ◌-◌, ℕ, true, Some, ap, sym, subst, refl, arith}
 use Rattle.ftp_base.specs.declared.types.reply.Response.{Response}
 use Rattle.ftp_calls.specs.declared.call.Call.{Call}
 use Rattle.ftp_calls.specs.declared.exchange.Ending.TheVariants.{GivesPort}
 use Rattle.ftp_calls.specs.declared.exchange.Turn.{Turn}
 use Rattle.ftp_calls.specs.declared.exchange.Turn.TheVariants.{ExtendedPassive}
-use Rattle.ftp_calls.specs.Exchanges.{ending_of, row_of}
 use Rattle.ftp_dialogue.specs.Coding.{Coding}
 use Rattle.ftp_dialogue.specs.Dialogue.{asking_passive, later}
 use Rattle.ftp_dialogue.specs.State.{SessionValue}

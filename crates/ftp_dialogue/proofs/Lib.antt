@@ -20,6 +20,7 @@ pub mod NegotiationLemmas
 pub mod Nexts
 pub mod Places
 pub mod Polls
+pub mod Questioning
 pub mod Reading
 pub mod ResyncLemmas
 pub mod Stages

@@ -1,11 +1,11 @@
 -- Lemmas on the way to a data connection.
-use Rattle.std.proofs.Common.{◌≡◌, ℕ, zero, suc, ◌+◌, ◌-◌, ◌<◌, Bool, true, false, ◌&&◌, nat_lt, cond, List, [], ◌∷◌, ◌++◌, length, Option, Some, None, Result, Ok, Err, inl, inr, ◌⊎◌, refl, ap, sym, ◌∙◌, subst, append-nil, arith}
+use Rattle.std.proofs.Common.{◌≡◌, ℕ, ◌+◌, ◌-◌, ◌<◌, Bool, true, false, ◌&&◌, nat_lt, cond, List, [], ◌∷◌, ◌++◌, length, Option, Some, None, Result, Ok, Err, inl, inr, refl, ap, sym, ◌∙◌, subst, append-nil, arith}
 use Rattle.std.specs.Prelude.{IfErr}
 use Rattle.std.specs.declared.io.ErrorKind.{ErrorKind}
 use Rattle.std.specs.declared.net.socket_addr.SocketAddr.{SocketAddr}
 use Rattle.ftp_base.specs.declared.types.fault.FtpError.{FtpError}
 use Rattle.ftp_base.specs.declared.types.fault.FtpError.TheVariants.{ConnectionError, OutOfMemory}
-use Rattle.ftp_base.specs.declared.types.fault.ConnectionError.TheVariants.{Io, NoAddress, TimedOut}
+use Rattle.ftp_base.specs.declared.types.fault.ConnectionError.TheVariants.{Io}
 use Rattle.std.specs.declared.time.Duration.{Duration}
 use Rattle.ftp_control.specs.Channel.{Channel, untaken}
 use Rattle.ftp_transport.specs.Memory.{IsGiven}
@@ -18,34 +18,23 @@ use Rattle.ftp_dialogue.specs.declared.model.NetOutcome.TheVariants as came
 use Rattle.ftp_transport.specs.declared.room.Room.{Room}
 use Rattle.ftp_calls.proofs.Openings.{read_opens_none}
 use Rattle.ftp_dialogue.proofs.Sorts.{opens_no_local}
-use Rattle.ftp_calls.specs.declared.call.Answer.{Answer}
 use Rattle.ftp_calls.specs.declared.call.Answer.TheVariants.{Unit, Fault}
 use Rattle.ftp_calls.specs.declared.call.Call.{Call}
 use Rattle.ftp_calls.specs.Exchanges.{negotiates, next_turn, restarted, restarts, row_of}
 use Rattle.ftp_dialogue.specs.declared.model.PlayState.{PlayState}
-use Rattle.ftp_dialogue.specs.declared.stage.OpeningData.{OpeningData as Way}
 use Rattle.ftp_base.specs.declared.types.reply.Response.{Response}
 use Rattle.ftp_dialogue.specs.declared.nodes.Accepted.TheVariants as accepts
 use Rattle.ftp_dialogue.specs.declared.stage.Awaits.{Awaits}
 use Rattle.ftp_dialogue.specs.declared.stage.Stage.{Stage}
-use Rattle.ftp_dialogue.specs.declared.stage.Stage.TheVariants.{At, OpeningData, Transferring}
-use Rattle.ftp_dialogue.specs.declared.stage.Transferring.TheVariants.{Starting}
-use Rattle.ftp_dialogue.specs.declared.stage.Opened.{Opened as Opening}
-use Rattle.ftp_dialogue.specs.declared.stage.Opened.TheVariants.{Gives as GivesAnswer, Performs as PerformsAll}
 use Rattle.ftp_dialogue.specs.declared.stage.Step.{Step}
 use Rattle.ftp_dialogue.specs.declared.stage.Step.TheVariants.{Next, Pending, Done}
 use Rattle.ftp_dialogue.specs.Coding.{Coding}
-use Rattle.ftp_base.specs.declared.types.mode.Mode.{Mode}
-use Rattle.ftp_base.specs.declared.types.mode.Mode.TheVariants as mode
 use Rattle.ftp_calls.specs.declared.exchange.Turn.TheVariants.{First, Second, Passive, ExtendedPassive, Active, Restart, Closed, Aborted}
-use Rattle.ftp_dialogue.specs.Sound.{cannot_open}
-use Rattle.ftp_dialogue.specs.declared.stage.OpeningData.TheVariants.{Negotiating, Asking}
-use Rattle.ftp_dialogue.specs.declared.stage.Asking.TheVariants.{Accepting, Connection, Securing}
 use Rattle.ftp_dialogue.specs.declared.state.State.{State}
 use Rattle.ftp_calls.specs.declared.exchange.Turn.{Turn}
-use Rattle.ftp_transport.specs.declared.request.Request.TheVariants.{Accept, Connect}
+use Rattle.ftp_transport.specs.declared.request.Request.TheVariants.{Accept}
 use Rattle.ftp_transport.specs.declared.request.RequestOutcome.TheVariants.{Done as Made, Address, Refused}
-use Rattle.ftp_dialogue.specs.Dialogue.{End, Here, There, Tree, Say, Look, Ask, Build, Secure, Move, Leaf, accepting, admitting, opening_data, connecting_to, doing, from_turn, last_turn, later, lets_in, most_reads, negotiating, negotiating_unless, on_address, on_built, on_connection, restart_turn, securing, strangers, with_transfer, Hear, asking_passive, on_passive, expecting, concluded}
+use Rattle.ftp_dialogue.specs.Dialogue.{End, Here, There, Tree, Say, Look, Ask, Build, Secure, Move, Leaf, doing, from_turn, last_turn, later, restart_turn, Hear, asking_passive, on_passive, expecting, concluded}
 use Rattle.ftp_dialogue.specs.Link.{Link}
 use Rattle.ftp_calls.specs.declared.exchange.Movement.{Movement}
 use Rattle.ftp_dialogue.specs.NetEvents.{NetEvent, NetEvents, ConstructedIs, Constructed, Dropped, Handshook, HandshookIs, Moved, MovementIs, Net, RequestIs, Requested, answers, constructed, net_record_of, after_request, moved, secured}
@@ -56,9 +45,9 @@ use Rattle.ftp_dialogue.specs.Play.{asked_then, secured_then, play, address_at}
 use Rattle.ftp_dialogue.proofs.Places.{here}
 use Rattle.ftp_dialogue.specs.Promises.{play_state, Goes, Aborts, Untouched, failed_from, state_at}
 use Rattle.ftp_dialogue.specs.State.{SessionValue}
-use Rattle.ftp_dialogue.specs.Steps.Moving.{AsksFirst, LetsIn, LetsInIf, Stands, StandsUnless, dropped, Accepts, Concludes, ConnectsTo, Ends, LooksUp, Meets, MeetsIf, Moves, NothingTouched, Speaks, Still, TurnsAway, Walks}
-use Rattle.ftp_dialogue.specs.Steps.Stages.{GoesOnTo, OpeningOf, many, opened_by, StageOf, StepAnswers, TurnOf, is_later, begun_at, first_by, has_asked, nodes_from, nodes_left, nodes_of, remaining, way_of}
-use Rattle.ftp_dialogue.proofs.Moving.{advances_on, leads_on, moves_on, leaf_ends, lacks_memory_at, nothing_leads, nothing_shrinks, stays_put}
+use Rattle.ftp_dialogue.specs.Steps.Moving.{dropped, Accepts, Concludes, LooksUp, NothingTouched, Still}
+use Rattle.ftp_dialogue.specs.Steps.Stages.{GoesOnTo, many, TurnOf, is_later, nodes_from, remaining}
+use Rattle.ftp_dialogue.proofs.Moving.{advances_on, leads_on, moves_on, lacks_memory_at, nothing_leads, nothing_shrinks, stays_put}
 use Rattle.ftp_base.specs.declared.status.Status.TheVariants.{PassiveMode}
 use Rattle.ftp_base.specs.Command.{text_of}
 use Rattle.ftp_base.specs.declared.command.Command.TheVariants as command
@@ -497,22 +486,6 @@ still_touched link tree tree' old new still = λ h.
     let came = still.advances.moves.leads.came in
     ([], still.advances.moves.leads.goes.received h ∙ ap (λ c. old.channel.told.received ++ c) still.none, still.untouched.said h, still.untouched.untaken)
 
--- the dialogue ends with an error
-pub still_ends : (link : Link) (tree : Tree) (fault : FtpError) (old new : SessionValue) → Still link tree (Leaf (Fault fault) old.state) old new → Ends link tree (Fault fault) old new
-still_ends link tree fault old new still =
-    let moves = still.advances.moves in
-    let T : Tree → Type 0 = λ t. Moves link tree t old new in
-    let L : State → Tree = λ s. Leaf (Fault fault) s in
-    leaf_ends link tree (Fault fault) old new new (subst T (ap L (sym moves.state)) moves) (λ f. inr tt) refl refl
-
--- the dialogue is done
-pub done_ends : (link : Link) (tree : Tree) (old new : SessionValue) → Still link tree (Leaf Unit old.state) old new → Ends link tree Unit old new
-done_ends link tree old new still =
-    let moves = still.advances.moves in
-    let T : Tree → Type 0 = λ t. Moves link tree t old new in
-    let L : State → Tree = λ s. Leaf Unit s in
-    leaf_ends link tree Unit old new new (subst T (ap L (sym moves.state)) moves) (λ f. inl (sym still.advances.failed ∙ f)) refl refl
-
 -- memory ran out before anything was said
 pub still_lacks : (link : Link) (tree : Tree) (old new : SessionValue) → old.channel.failed ≡ false → Still link tree tree old new → Aborts link false tree (Fault OutOfMemory) old new
 still_lacks link tree old new going still =
@@ -529,120 +502,9 @@ still_lacks link tree old new going still =
       cause = inr (record { is = refl; leaves = inl (refl, refl, subst U (sym still.none) still.untouched) });
     }
 
--- where the transport is asked no reply is awaited
-pub connecting_unheard : (address : SocketAddr) (state other : State) (next : Tree) → state_at (connecting_to address state next) OutOfMemory other ≡ other
-connecting_unheard address state other next = elim state.settings.stream_builder as (λ b. state_at (cond b (Build address (on_built state next)) (Ask (Connect address None) (on_connection state next))) OutOfMemory other ≡ other) [
-  | true ↦ refl
-  | false ↦ refl
-]
-
-pub accepting_unheard : (opened : Tree) (peer : SocketAddr) (left : ℕ) (state other : State) → state_at (accepting opened peer left state) OutOfMemory other ≡ other
-unfolding accepting
-accepting_unheard opened peer zero state other = refl
-accepting_unheard opened peer (suc left) state other = refl
-
 -- memory ran out after a reply was taken
 pub still_fails : (link : Link) (tree : Tree) (old mid : SessionValue) → state_at tree OutOfMemory mid.state ≡ mid.state → old.channel.failed ≡ false → Still link tree tree old mid → Aborts link true tree (Fault OutOfMemory) old (failed_from mid)
 still_fails link tree old mid stays going still = lacks_memory_at link true tree tree old mid stays (inl refl) still.advances.moves still.advances.failed
-
-module _ (link : Link) (coding : Coding) (call : Call) (way : Way) (opens : negotiates call ≡ true) where
-  -- the next node is reached
-  pub walks_on : (stage' : Stage) (old new : SessionValue) → Still link (way_of coding call old.state way) (remaining coding call old.state stage') old new → begun_at stage' ≡ has_asked way → (Speaks (way_of coding call old.state way) → Speaks (remaining coding call old.state stage')) → nodes_left stage' < nodes_of way → StageOf call stage' → Walks link coding call (OpeningData way) stage' old new Next
-  walks_on stage' old new still same speaks fewer stage_of = record {
-    steps = still.advances;
-    quiet = λ none. record { still = still; begun = sym same ∙ none; speaks = speaks; read = λ read. let clash : true ≡ false = sym read ∙ read_opens_none call opens in cc };
-    begun = (λ has. inl (sym same ∙ has), λ none. (sym same ∙ none, still_touched link _ _ old new still));
-    answers = tt;
-    fewer = λ is. fewer;
-    stage_of = stage_of;
-    waits = λ is. let clash : Next ≡ Pending = is in cc;
-  }
-
-  -- the call has its answer
-  pub walks_end : (stage' : Stage) (answer : Answer) (old new : SessionValue) → Ends link (way_of coding call old.state way) answer old new ⊎ Aborts link (has_asked way) (way_of coding call old.state way) answer old new → StepAnswers call (Done answer) → Walks link coding call (OpeningData way) stage' old new (Done answer)
-  walks_end stage' answer old new made answers = record {
-    steps = made;
-    quiet = tt;
-    begun = tt;
-    answers = answers;
-    fewer = λ is. let clash : Done answer ≡ Next = is in cc;
-    stage_of = tt;
-    waits = λ is. let clash : Done answer ≡ Pending = is in cc;
-  }
-
-  -- the transport waits
-  pub walks_wait : (request : Request) (next : RequestOutcome → Tree) (old new : SessionValue) → way_of coding call old.state way ≡ Ask request next → ((tree : Tree) → Still link tree tree old new) → link.asks_wait → StageOf call (OpeningData way) → Walks link coding call (OpeningData way) (OpeningData way) old new Pending
-  walks_wait request next old new is still may stage_of =
-      let here = still (way_of coding call old.state way) in
-      record {
-        steps = (here.advances, inr (inr (record { asks = (let A : Tree → Type 0 = AsksFirst in subst A (sym is) tt); may = may })));
-        quiet = tt;
-        begun = (λ has. inl has, λ none. (none, still_touched link _ _ old new here));
-        answers = tt;
-        fewer = λ is. let clash : Pending ≡ Next = is in cc;
-        stage_of = stage_of;
-        waits = λ is. may;
-      }
-
--- no transfer can be opened
-pub cannot_ends : (link : Link) (coding : Coding) (call : Call) (offset : ℕ) (view old : SessionValue) (fault : FtpError) → view ≡ old → cannot_open view.state.counts ≡ Some fault → Ends link (negotiating coding call offset old.state) (Fault fault) old old
-cannot_ends link coding call offset view old fault same is =
-    let P : Option FtpError → Type 0 = λ o. Ends link (negotiating_unless o coding call offset view.state) (Fault fault) view view in
-    let V : SessionValue → Type 0 = λ v. Ends link (negotiating coding call offset v.state) (Fault fault) v v in
-    let leaf = Leaf (Fault fault) view.state in
-    subst V same (subst P (sym is) (still_ends link leaf fault view view (unchanged_still link leaf leaf view view refl refl)))
-
--- the first node, by who opens the data connection
-pub agrees_by : (link : Link) (coding : Coding) (call : Call) (offset : ℕ) (m : Mode) (stage' : Stage) (old new : SessionValue) → negotiates call ≡ true → cannot_open old.state.counts ≡ None → old.state.settings.mode ≡ m → stage' ≡ first_by m offset → ((tree : Tree) → Still link tree tree old new) → Walks link coding call (OpeningData (Negotiating offset)) stage' old new Next
-agrees_by link coding call offset m stage' old new opens none is at still =
-    let P : Stage → Type 0 = λ s. Walks link coding call (OpeningData (Negotiating offset)) s old new Next in
-    subst P (sym at) (go m is)
-  where
-    tree : Tree
-    tree = negotiating coding call offset old.state
-
-    reached : (m : Mode) → old.state.settings.mode ≡ m → tree ≡ opening_data m coding call offset old.state
-    reached m is = ap (λ o. negotiating_unless o coding call offset old.state) none ∙ ap (λ x. opening_data x coding call offset old.state) is
-
-    go : (m : Mode) → old.state.settings.mode ≡ m → Walks link coding call (OpeningData (Negotiating offset)) (first_by m offset) old new Next
-    go mode.Active is =
-        let T : Tree → Type 0 = λ t. Still link tree t old new in
-        let S : Tree → Type 0 = λ t. Speaks tree → Speaks t in
-        walks_on link coding call (Negotiating offset) opens (first_by mode.Active offset) old new (subst T (reached mode.Active is) (still tree)) refl (subst S (reached mode.Active is) (λ s. s)) (omega arith) (opens, tt)
-    go mode.Passive is =
-        let T : Tree → Type 0 = λ t. Still link tree t old new in
-        let S : Tree → Type 0 = λ t. Speaks tree → Speaks t in
-        walks_on link coding call (Negotiating offset) opens (first_by mode.Passive offset) old new (subst T (reached mode.Passive is) (still tree)) refl (subst S (reached mode.Passive is) (λ s. s)) (omega arith) opens
-    go mode.ExtendedPassive is =
-        let T : Tree → Type 0 = λ t. Still link tree t old new in
-        let S : Tree → Type 0 = λ t. Speaks tree → Speaks t in
-        walks_on link coding call (Negotiating offset) opens (first_by mode.ExtendedPassive offset) old new (subst T (reached mode.ExtendedPassive is) (still tree)) refl (subst S (reached mode.ExtendedPassive is) (λ s. s)) (omega arith) opens
-    go mode.Automatic is =
-        let T : Tree → Type 0 = λ t. Still link tree t old new in
-        let S : Tree → Type 0 = λ t. Speaks tree → Speaks t in
-        walks_on link coding call (Negotiating offset) opens (first_by mode.Automatic offset) old new (subst T (reached mode.Automatic is) (still tree)) refl (subst S (reached mode.Automatic is) (λ s. s)) (omega arith) (opens, tt)
-
--- How many nodes are left
-
-pub reached_fewer : (turn : Turn) → nodes_from turn - 4 < nodes_from turn - 3
-reached_fewer First = omega arith
-reached_fewer Second = omega arith
-reached_fewer (Passive offset after) = omega arith
-reached_fewer (ExtendedPassive offset tries) = omega arith
-reached_fewer (Active address offset) = omega arith
-reached_fewer (Restart offset) = omega arith
-reached_fewer (Closed close) = omega arith
-reached_fewer Aborted = omega arith
-
-pub known_fewer : (turn : Turn) → most_reads + strangers + 15 < nodes_from turn - 3
-known_fewer First = omega arith
-known_fewer Second = omega arith
-known_fewer (Passive offset after) = omega arith
-known_fewer (ExtendedPassive offset tries) = omega arith
-known_fewer (Active address offset) = omega arith
-known_fewer (Restart offset) = omega arith
-known_fewer (Closed close) = omega arith
-known_fewer Aborted = omega arith
 
 -- What comes after a turn
 
@@ -682,36 +544,6 @@ passive_heard coding state next = fun_ext heard
 pub fallen_back : (coding : Coding) (call : Call) (offset : ℕ) (state : State) → asking_passive coding state (later coding call (ExtendedPassive offset true)) ≡ from_turn coding call (Passive offset true) state
 fallen_back coding call offset state = ap (λ next. Say (wire coding.encode (text_of command.Pasv)) (Hear (expecting (PassiveMode ∷ [])) next)) (passive_heard coding state (restart_turn coding call offset))
 
--- the first node of a connection, by who makes it
-pub dials : (address : SocketAddr) (state : State) (next : Tree) → state.settings.stream_builder ≡ false → connecting_to address state next ≡ Ask (Connect address None) (on_connection state next)
-dials address state next is = ap (λ b. cond b (Build address (on_built state next)) (Ask (Connect address None) (on_connection state next))) is
-
-pub constructs : (address : SocketAddr) (state : State) (next : Tree) → state.settings.stream_builder ≡ true → connecting_to address state next ≡ Build address (on_built state next)
-constructs address state next is = ap (λ b. cond b (Build address (on_built state next)) (Ask (Connect address None) (on_connection state next))) is
-
-connecting_speaks_none : (address : SocketAddr) (state : State) (next : Tree) → Speaks (connecting_to address state next) → ⊥
-connecting_speaks_none address state next =
-    elim state.settings.stream_builder as (λ b. Speaks (cond b (Build address (on_built state next)) (Ask (Connect address None) (on_connection state next))) → ⊥) [
-      | true ↦ λ s. s
-      | false ↦ λ s. s
-    ]
-
--- a connection was made: the next turn begins
-pub connected_walks : (link : Link) (coding : Coding) (call : Call) (turn : Turn) (address : SocketAddr) (stage' : Stage) (old mid : SessionValue) (result : Step) → negotiates call ≡ true → Still link (connecting_to address old.state (later coding call turn old.state)) (later coding call turn old.state) old mid → GoesOnTo call turn stage' result → Walks link coding call (OpeningData (Asking turn (Connection address))) stage' old mid result
-connected_walks link coding call turn address stage' old mid Next opens still on =
-    let fits = subst (λ o. NextFits coding call (nodes_from turn) (later coding call turn) o) on.1 (next_fits coding call turn) in
-    let tree = connecting_to address old.state (later coding call turn old.state) in
-    let P : Stage → Type 0 = λ s. Walks link coding call (OpeningData (Asking turn (Connection address))) s old mid Next in
-    let T : Tree → Type 0 = λ t. Still link tree t old mid in
-    subst P (sym on.2) (walks_on link coding call (Asking turn (Connection address)) opens (At on.0) old mid (subst T (fits.3 old.state) still) fits.1 (λ s. absurd (connecting_speaks_none address old.state (later coding call turn old.state) s)) fits.0 (fits.2 opens))
-connected_walks link coding call turn address stage' old mid Pending opens still on = absurd on
-connected_walks link coding call turn address stage' old mid (Done last) opens still on =
-    let none = subst (λ o. NextFits coding call (nodes_from turn) (later coding call turn) o) on.0 (next_fits coding call turn) in
-    let tree = connecting_to address old.state (later coding call turn old.state) in
-    let T : Tree → Type 0 = λ t. Still link tree t old mid in
-    let P : Answer → Type 0 = λ a. Walks link coding call (OpeningData (Asking turn (Connection address))) stage' old mid (Done a) in
-    subst P (sym on.1) (walks_end link coding call (Asking turn (Connection address)) opens stage' Unit old mid (inl (done_ends link tree old mid (subst T (none old.state) still))) (Passive 0 false, inl opens, refl))
-
 -- a reply that goes on was accepted: the next turn begins, or the call is done
 pub concludes_on : (coding : Coding) (call : Call) (a : Awaits) (reply : Response) (stage' : Stage) (old new : SessionValue) (result : Step) → new ≡ record old { state = new.state } → Accepts coding a.ending reply old.state new.state accepts.GoesOn → GoesOnTo call a.turn stage' result → Concludes coding call a reply stage' old new result
 concludes_on coding call a reply stage' old new Next same accepts on =
@@ -725,211 +557,3 @@ concludes_on coding call a reply stage' old new (Done last) same accepts on =
       channel = ap (λ v. v.channel) same;
       net = ap (λ v. v.net) same;
     })
-
--- the transport was asked for a connection
-pub connects_walks : (link : Link) (coding : Coding) (call : Call) (turn : Turn) (address : SocketAddr) (outcome : RequestOutcome) (stage' : Stage) (old mid : SessionValue) (result : Step) → negotiates call ≡ true → old.state.settings.stream_builder ≡ false → ((next : RequestOutcome → Tree) → Still link (Ask (Connect address None) next) (next outcome) old mid) → ConnectsTo call turn outcome stage' result → Walks link coding call (OpeningData (Asking turn (Connection address))) stage' old mid result
-connects_walks link coding call turn address outcome stage' old mid result opens alone still on = go outcome (subst T (sym (dials address old.state next alone)) (still (on_connection old.state next))) on
-  where
-    next : Tree
-    next = later coding call turn old.state
-
-    T : Tree → Type 0
-    T t = Still link t (on_connection old.state next outcome) old mid
-
-    go : (o : RequestOutcome) → Still link (connecting_to address old.state next) (on_connection old.state next o) old mid → ConnectsTo call turn o stage' result → Walks link coding call (OpeningData (Asking turn (Connection address))) stage' old mid result
-    go Made here on = connected_walks link coding call turn address stage' old mid result opens here on
-    go (Address other) here on = connected_walks link coding call turn address stage' old mid result opens here on
-    go (Refused fault) here is =
-        let way : Way = Asking turn (Connection address) in
-        let P : Step → Type 0 = λ r. Walks link coding call (OpeningData way) stage' old mid r in
-        subst P (sym is) (walks_end link coding call way opens stage' (Fault (ConnectionError fault)) old mid (inl (still_ends link (connecting_to address old.state next) (ConnectionError fault) old mid here)) (First, inr tt, tt))
-
--- it waits
-pub dial_waits : (link : Link) (coding : Coding) (call : Call) (turn : Turn) (address : SocketAddr) (old new : SessionValue) → negotiates call ≡ true → old.state.settings.stream_builder ≡ false → ((tree : Tree) → Still link tree tree old new) → link.asks_wait → Walks link coding call (OpeningData (Asking turn (Connection address))) (OpeningData (Asking turn (Connection address))) old new Pending
-dial_waits link coding call turn address old new opens alone still may =
-    let next : Tree = later coding call turn old.state in
-    walks_wait link coding call (Asking turn (Connection address)) opens (Connect address None) (on_connection old.state next) old new (dials address old.state next alone) still may (opens, tt)
-
--- the builder made a connection
-pub built_walks : (link : Link) (coding : Coding) (call : Call) (turn : Turn) (address : SocketAddr) (stage' : Stage) (old mid : SessionValue) (result : Step) → negotiates call ≡ true → old.state.settings.stream_builder ≡ true → ((next : Option FtpError → Tree) → Still link (Build address next) (next None) old mid) → GoesOnTo call turn stage' result → Walks link coding call (OpeningData (Asking turn (Connection address))) stage' old mid result
-built_walks link coding call turn address stage' old mid result opens beside still on =
-    let next : Tree = later coding call turn old.state in
-    let T : Tree → Type 0 = λ t. Still link t next old mid in
-    connected_walks link coding call turn address stage' old mid result opens (subst T (sym (constructs address old.state next beside)) (still (on_built old.state next))) on
-
--- it gave an error, which is the answer
-pub unbuilt_walks : (link : Link) (coding : Coding) (call : Call) (turn : Turn) (address : SocketAddr) (fault : FtpError) (stage' : Stage) (old mid : SessionValue) → negotiates call ≡ true → old.state.settings.stream_builder ≡ true → ((next : Option FtpError → Tree) → Still link (Build address next) (next (Some fault)) old mid) → Walks link coding call (OpeningData (Asking turn (Connection address))) stage' old mid (Done (Fault fault))
-unbuilt_walks link coding call turn address fault stage' old mid opens beside still =
-    let next : Tree = later coding call turn old.state in
-    let T : Tree → Type 0 = λ t. Still link t (Leaf (Fault fault) old.state) old mid in
-    walks_end link coding call (Asking turn (Connection address)) opens stage' (Fault fault) old mid (inl (still_ends link (connecting_to address old.state next) fault old mid (subst T (sym (constructs address old.state next beside)) (still (on_built old.state next))))) (First, inr tt, tt)
-
--- A peer is accepted
-
--- what is left where one isn't let in
-abbrev pub others_of : Tree → SocketAddr → ℕ → State → Tree
-others_of opened peer zero state = Leaf (Fault (ConnectionError TimedOut)) state
-others_of opened peer (suc left) state = accepting opened peer left state
-
-abbrev pub knocks : Tree → SocketAddr → ℕ → State → RequestOutcome → Tree
-knocks opened peer left state = on_address state (λ from. admitting (lets_in state peer from) opened (others_of opened peer left state))
-
-pub accepting_is : (opened : Tree) (peer : SocketAddr) (left : ℕ) (state : State) → accepting opened peer left state ≡ Ask (Accept state.settings.active_deadline) (knocks opened peer left state)
-unfolding accepting
-accepting_is opened peer zero state = refl
-accepting_is opened peer (suc left) state = refl
-
--- The data connection stands
-
-module _ (link : Link) (coding : Coding) (call : Call) (way : Way) (opens : negotiates call ≡ true) (at_last : most_reads + 11 < nodes_of way) (asked : has_asked way ≡ true) (quiet : (state : State) → Speaks (way_of coding call state way) → ⊥) where
-  -- nothing was said since, and this is left of the dialogue: a transfer is live, or a whole file or listing goes over the
-  -- connection
-  pub stands_walks : (how : Opening) (stage' : Stage) (old mid new : SessionValue) (result : Step) → OpeningOf call how → Still link (way_of coding call old.state way) (opened_by coding how old.state) old mid → Stands how stage' mid new result → Walks link coding call (OpeningData way) stage' old new result
-  stands_walks (GivesAnswer answer) stage' old mid new result may still (done, same) =
-      let tree : Tree = way_of coding call old.state way in
-      let moves = still.advances.moves in
-      let P : Step → Type 0 = λ r. Walks link coding call (OpeningData way) stage' old new r in
-      let V : SessionValue → Type 0 = λ v. Ends link tree answer old v in
-      let T : Tree → Type 0 = λ t. Moves link tree t old mid in
-      let L : State → Tree = λ s. Leaf answer (with_transfer s) in
-      let ends : Ends link tree answer old new = subst V (sym same) (leaf_ends link tree answer old mid (record mid { state = with_transfer mid.state }) (subst T (ap L (sym moves.state)) moves) (λ f. inl (sym still.advances.failed ∙ f)) refl refl) in
-      subst P (sym done) (walks_end link coding call way opens stage' answer old new (inl ends) may.0)
-  stands_walks (PerformsAll task) stage' old mid new result may still (on, at, same) =
-      let P : Step → Type 0 = λ r. Walks link coding call (OpeningData way) stage' old new r in
-      let Q : Stage → Type 0 = λ s. Walks link coding call (OpeningData way) s old new Next in
-      let V : SessionValue → Type 0 = λ v. Walks link coding call (OpeningData way) (Transferring (Starting task)) old v Next in
-      subst P (sym on) (subst Q (sym at) (subst V (sym same) (walks_on link coding call way opens (Transferring (Starting task)) old mid still (sym asked) (λ s. absurd (quiet old.state s)) at_last may)))
-
--- TLS
-
-module _ (link : Link) (coding : Coding) (call : Call) (turn : Turn) (how : Opening) (old mid : SessionValue) (opens : negotiates call ≡ true) (may : OpeningOf call how) where
-  abbrev handshake : Way
-  handshake = Asking turn (Securing how)
-
-  -- the data connection is under TLS
-  pub secured_walks : (stage' : Stage) (new : SessionValue) (result : Step) → ((next : Option FtpError → Tree) → Still link (Secure next) (next None) old mid) → Stands how stage' mid new result → Walks link coding call (OpeningData handshake) stage' old new result
-  secured_walks stage' new result still stands =
-      stands_walks link coding call handshake opens (omega arith) refl (λ state s. absurd s) how stage' old mid new result may (still (on_built old.state (opened_by coding how old.state))) stands
-
-  -- it couldn't be put under it
-  pub unsecured_walks : (fault : FtpError) (stage' : Stage) → ((next : Option FtpError → Tree) → Still link (Secure next) (next (Some fault)) old mid) → Walks link coding call (OpeningData handshake) stage' old mid (Done (Fault fault))
-  unsecured_walks fault stage' still =
-      let next = on_built old.state (opened_by coding how old.state) in
-      walks_end link coding call handshake opens stage' (Fault fault) old mid (inl (still_ends link (Secure next) fault old mid (still next))) (First, inr tt, tt)
-
-  -- either way
-  pub shaken_walks : (fault : Option FtpError) (stage' : Stage) (new : SessionValue) (result : Step) → ((next : Option FtpError → Tree) → Still link (Secure next) (next fault) old mid) → StandsUnless fault how stage' mid new result → Walks link coding call (OpeningData handshake) stage' old new result
-  shaken_walks None stage' new result still stands = secured_walks stage' new result still stands
-  shaken_walks (Some fault) stage' new result still (is, same) = rw (is, same) (unsecured_walks fault stage' still)
-
-  -- it waits
-  pub secure_waits : ((next : Option FtpError → Tree) → Still link (Secure next) (Secure next) old mid) → link.asks_wait → Walks link coding call (OpeningData handshake) (OpeningData handshake) old mid Pending
-  secure_waits still waits =
-      let here = still (on_built old.state (opened_by coding how old.state)) in
-      record {
-        steps = (here.advances, inr (inr (record { asks = tt; may = waits })));
-        quiet = tt;
-        begun = (λ has. inl has, λ none. (none, still_touched link _ _ old mid here));
-        answers = tt;
-        fewer = λ is. let clash : Pending ≡ Next = is in cc;
-        stage_of = (opens, may);
-        waits = λ is. waits;
-      }
-
-module _ (link : Link) (coding : Coding) (how : Opening) (peer from : SocketAddr) (left : ℕ) (old mid : SessionValue) where
-  abbrev opened : Tree
-  opened = securing (opened_by coding how old.state) old.state
-
-  abbrev waiting : Tree
-  waiting = accepting opened peer left old.state
-
-  -- what the request resulted in
-  abbrev pub Knocks : Type 0
-  Knocks = Still link (Ask (Accept old.state.settings.active_deadline) (knocks opened peer left old.state)) (knocks opened peer left old.state (Address from)) old mid
-
-  knocked : (allowed : Bool) → lets_in old.state peer from ≡ allowed → Knocks → Still link waiting (admitting allowed opened (others_of opened peer left old.state)) old mid
-  knocked allowed is still =
-      let P : Tree → Type 0 = λ t. Still link t (knocks opened peer left old.state (Address from)) old mid in
-      let Q : Bool → Type 0 = λ b. Still link waiting (admitting b opened (others_of opened peer left old.state)) old mid in
-      subst Q is (subst P (sym (accepting_is opened peer left old.state)) still)
-
-  knocking_quiet : (state : State) → Speaks (accepting (securing (opened_by coding how state) state) peer left state) → ⊥
-  knocking_quiet state s =
-      let S : Tree → Type 0 = Speaks in
-      absurd (subst S (accepting_is (securing (opened_by coding how state) state) peer left state) s)
-
-  -- it is let in: its connection is put under TLS, or stands as it is
-  pub lets_in_walks : (call : Call) (turn : Turn) (stage' : Stage) (new : SessionValue) (result : Step) → negotiates call ≡ true → OpeningOf call how → lets_in old.state peer from ≡ true → Knocks → LetsIn turn how stage' mid new result → Walks link coding call (OpeningData (Asking turn (Accepting peer left how))) stage' old new result
-  lets_in_walks call turn stage' new result opens may is still lets = go old.state.settings.secure refl (let B : Bool → Type 0 = λ b. LetsInIf b turn how stage' mid new result in subst B (ap (λ s. s.settings.secure) here.advances.moves.state) lets)
-    where
-      way : Way
-      way = Asking turn (Accepting peer left how)
-
-      here : Still link waiting opened old mid
-      here = knocked true is still
-
-      as_is : (b : Bool) → old.state.settings.secure ≡ b → Still link waiting (cond b (Secure (on_built old.state (opened_by coding how old.state))) (opened_by coding how old.state)) old mid
-      as_is b same = (let T : Bool → Type 0 = λ x. Still link waiting (cond x (Secure (on_built old.state (opened_by coding how old.state))) (opened_by coding how old.state)) old mid in subst T same here)
-
-      go : (b : Bool) → old.state.settings.secure ≡ b → LetsInIf b turn how stage' mid new result → Walks link coding call (OpeningData way) stage' old new result
-      go true same (on, at, stays) =
-          let P : Step → Type 0 = λ r. Walks link coding call (OpeningData way) stage' old new r in
-          let Q : Stage → Type 0 = λ s. Walks link coding call (OpeningData way) s old new Next in
-          let V : SessionValue → Type 0 = λ v. Walks link coding call (OpeningData way) (OpeningData (Asking turn (Securing how))) old v Next in
-          subst P (sym on) (subst Q (sym at) (subst V (sym stays) (walks_on link coding call way opens (OpeningData (Asking turn (Securing how))) old mid (as_is true same) refl (λ s. absurd (knocking_quiet old.state s)) (omega arith) (opens, may))))
-      go false same stands =
-          stands_walks link coding call way opens (omega arith) refl (λ state s. knocking_quiet state s) how stage' old mid new result may (as_is false same) stands
-
-  -- it is turned away
-  pub turns_away : (call : Call) (turn : Turn) (stage' : Stage) (new : SessionValue) (result : Step) → negotiates call ≡ true → OpeningOf call how → lets_in old.state peer from ≡ false → Knocks → TurnsAway turn peer left how stage' mid new result → Walks link coding call (OpeningData (Asking turn (Accepting peer left how))) stage' old new result
-  turns_away call turn stage' new Next opens may is still away =
-      let way : Way = Asking turn (Accepting peer left how) in
-      let next : Stage = OpeningData (Asking turn (Accepting peer away.0 how)) in
-      let T : ℕ → Type 0 = λ n. Still link waiting (others_of opened peer n old.state) old mid in
-      let S : Tree → Type 0 = Speaks in
-      let P : Stage → Type 0 = λ s. Walks link coding call (OpeningData way) s old (dropped mid) Next in
-      let V : SessionValue → Type 0 = λ v. Walks link coding call (OpeningData way) stage' old v Next in
-      let D : Tree → Type 0 = λ t. Still link t t mid (dropped mid) in
-      let again : Still link (accepting opened peer away.0 old.state) (accepting opened peer away.0 old.state) mid (dropped mid) = subst D (sym (accepting_is opened peer away.0 old.state)) (dropped_still link old.state.settings.active_deadline (knocks opened peer away.0 old.state) mid) in
-      subst V (sym away.3) (subst P (sym away.2) (walks_on link coding call way opens next old (dropped mid) (still_on link waiting (accepting opened peer away.0 old.state) (accepting opened peer away.0 old.state) old mid (dropped mid) (subst T away.1 (knocked false is still)) again) refl (λ s. absurd (subst S (accepting_is opened peer left old.state) s)) (omega (arith, away.1)) (opens, may)))
-  turns_away call turn stage' new Pending opens may is still away = absurd away
-  turns_away call turn stage' new (Done last) opens may is still away =
-      let way : Way = Asking turn (Accepting peer left how) in
-      let fault : FtpError = ConnectionError TimedOut in
-      let T : ℕ → Type 0 = λ n. Still link waiting (others_of opened peer n old.state) old mid in
-      let P : Answer → Type 0 = λ a. Walks link coding call (OpeningData way) stage' old mid (Done a) in
-      let V : SessionValue → Type 0 = λ v. Walks link coding call (OpeningData way) stage' old v (Done last) in
-      subst V (sym away.2) (subst P (sym away.1) (walks_end link coding call way opens stage' (Fault fault) old mid (inl (still_ends link waiting fault old mid (subst T away.0 (knocked false is still)))) (First, inr tt, tt)))
-
-  -- it waits for a peer
-  pub waits_for_peer : (call : Call) (turn : Turn) → negotiates call ≡ true → OpeningOf call how → ((tree : Tree) → Still link tree tree old mid) → link.asks_wait → Walks link coding call (OpeningData (Asking turn (Accepting peer left how))) (OpeningData (Asking turn (Accepting peer left how))) old mid Pending
-  waits_for_peer call turn opens may still waits =
-      walks_wait link coding call (Asking turn (Accepting peer left how)) opens (Accept old.state.settings.active_deadline) (knocks opened peer left old.state) old mid (accepting_is opened peer left old.state) still waits (opens, may)
-
-  -- none came
-  pub none_comes : (fault : FtpError) → Still link (Ask (Accept old.state.settings.active_deadline) (knocks opened peer left old.state)) (Leaf (Fault fault) old.state) old mid → Ends link waiting (Fault fault) old mid
-  none_comes fault still =
-      let P : Tree → Type 0 = λ t. Ends link t (Fault fault) old mid in
-      subst P (sym (accepting_is opened peer left old.state)) (still_ends link _ fault old mid still)
-
--- what a request for a peer resulted in
-pub meets_walks : (link : Link) (coding : Coding) (call : Call) (turn : Turn) (peer : SocketAddr) (left : ℕ) (how : Opening) (outcome : RequestOutcome) (stage' : Stage) (old mid new : SessionValue) (result : Step) → negotiates call ≡ true → OpeningOf call how → ((next : RequestOutcome → Tree) → Still link (Ask (Accept old.state.settings.active_deadline) next) (next outcome) old mid) → Meets outcome turn peer left how stage' mid new result → Walks link coding call (OpeningData (Asking turn (Accepting peer left how))) stage' old new result
-meets_walks link coding call turn peer left how (Address from) stage' old mid new result opens may still meets =
-    let here = still (knocks (securing (opened_by coding how old.state) old.state) peer left old.state) in
-    let way : Way = Asking turn (Accepting peer left how) in
-    let state : lets_in mid.state peer from ≡ lets_in old.state peer from = ap (λ s. lets_in s peer from) here.advances.moves.state in
-    go (lets_in old.state peer from) refl (let M : Bool → Type 0 = λ b. MeetsIf b turn peer left how stage' mid new result in subst M state meets)
-  where
-    go : (b : Bool) → lets_in old.state peer from ≡ b → MeetsIf b turn peer left how stage' mid new result → Walks link coding call (OpeningData (Asking turn (Accepting peer left how))) stage' old new result
-    go true is lets = lets_in_walks link coding how peer from left old mid call turn stage' new result opens may is (still (knocks (securing (opened_by coding how old.state) old.state) peer left old.state)) lets
-    go false is away = turns_away link coding how peer from left old mid call turn stage' new result opens may is (still (knocks (securing (opened_by coding how old.state) old.state) peer left old.state)) away
-meets_walks link coding call turn peer left how (Refused fault) stage' old mid new result opens may still (same, is) =
-    let way : Way = Asking turn (Accepting peer left how) in
-    let V : SessionValue → Type 0 = λ v. Walks link coding call (OpeningData way) stage' old v result in
-    let P : Step → Type 0 = λ r. Walks link coding call (OpeningData way) stage' old mid r in
-    subst V (sym same) (subst P (sym is) (walks_end link coding call way opens stage' (Fault (ConnectionError fault)) old mid (inl (none_comes link coding how peer peer left old mid (ConnectionError fault) (still (knocks (securing (opened_by coding how old.state) old.state) peer left old.state)))) (First, inr tt, tt)))
-meets_walks link coding call turn peer left how Made stage' old mid new result opens may still (same, is) =
-    let way : Way = Asking turn (Accepting peer left how) in
-    let V : SessionValue → Type 0 = λ v. Walks link coding call (OpeningData way) stage' old v result in
-    let P : Step → Type 0 = λ r. Walks link coding call (OpeningData way) stage' old mid r in
-    subst V (sym same) (subst P (sym is) (walks_end link coding call way opens stage' (Fault (ConnectionError NoAddress)) old mid (inl (none_comes link coding how peer peer left old mid (ConnectionError NoAddress) (still (knocks (securing (opened_by coding how old.state) old.state) peer left old.state)))) (First, inr tt, tt)))

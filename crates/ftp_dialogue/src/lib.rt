@@ -25,6 +25,7 @@ pub mod machine;
 pub mod model;
 mod negotiation;
 mod nodes;
+mod questions;
 mod readiness;
 mod requests;
 mod resyncing;

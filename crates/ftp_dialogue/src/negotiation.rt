@@ -2,28 +2,42 @@
 //! RFC 2428).
 //!
 //! Addresses are looked up on the control connection; the transport is asked to connect, or to listen and to accept.
-//! What it makes stays in the machine. Each function is one node of a call's dialogue.
+//! What it makes stays in the machine. `walk` asks what is due (`questions`), and `after` says what follows.
 
 ghost use Rattle.std.specs.Prelude.{◌≡◌, true, false};
-ghost use Rattle.ftp_calls.specs.Exchanges.{negotiates};
+ghost use Rattle.ftp_calls.specs.Exchanges.{negotiates, next_turn};
 ghost use Rattle.ftp_dialogue.specs.Coding.{Coding};
-ghost use Rattle.ftp_dialogue.specs.Dialogue.{Here, There, at_port, is_ipv4};
+ghost use Rattle.ftp_dialogue.specs.Dialogue.{at_port, is_ipv4};
 ghost use Rattle.ftp_dialogue.specs.Link.{asking, polling};
-ghost use Rattle.ftp_dialogue.specs.Promises.{failed_from};
-ghost use Rattle.ftp_dialogue.specs.Steps.Moving.{ConnectsTo, LooksUp, Walks};
-ghost use Rattle.ftp_dialogue.specs.Steps.Stages.{WayOf, first_by};
+ghost use Rattle.ftp_dialogue.specs.Sound.{cannot_open};
+ghost use Rattle.ftp_dialogue.specs.Steps.Moving.{Walks};
+ghost use Rattle.ftp_dialogue.specs.Steps.Questions.{Arrives, Continues, Fits, builds_as, connects_as, first_unless, listens_as, question_at, to_turn};
+ghost use Rattle.ftp_dialogue.specs.Steps.Stages.{AskingOf, WayOf, first_by, has_asked};
 
+use super::admitting::{STRANGERS, met, shaken};
 use super::asks::Asks;
 use super::machine::Machine;
-use super::stage::{Asking, OpeningData, Stage, Step, go_on, go_to};
+use super::questions::{Asked, Found, question_of};
+use super::stage::{Asking, OpeningData, Stage, Step, go_to};
+use super::state::State;
 use super::{Answer, Call};
 use ftp_base::types::{ConnectionError, FtpError, Mode};
-use ftp_calls::exchange::Turn;
+use ftp_calls::exchange::{Turn, next_turn};
 use ftp_transport::{Network, PollConn, RequestOutcome};
-use futures::task::Poll;
-use std::alloc::AllocError;
-use std::io::ErrorKind;
 use std::net::{SocketAddr, SocketAddrV4, SocketAddrV6};
+
+/// What follows what was found.
+#[derive(Drop)]
+pub enum Reached {
+    /// The next node.
+    Node(Stage),
+    /// The next node, once a stranger's connection is dropped.
+    Turned(Stage),
+    /// The answer: a transfer is live.
+    Opens(Answer),
+    /// The answer.
+    Answers(Answer),
+}
 
 impl<Tr: Network> Machine<Tr> {
     /// One node on the way to a data connection.
@@ -47,336 +61,170 @@ impl<Tr: Network> Machine<Tr> {
             call.now
             (Stage.OpeningData opening_data) stage.new self.old self.new result }
     {
-        match opening_data {
-            OpeningData::Negotiating(offset) => self.negotiate(asker, call, offset, stage, w),
-            OpeningData::Choosing(offset) => self.choose(asker, call, offset, stage, w),
-            OpeningData::Locating(offset) => self.locate(asker, call, offset, stage, w),
-            OpeningData::Binding(local, offset) => self.bind(asker, call, local, offset, stage, w),
-            OpeningData::Asking(turn, Asking::PeerPort(port)) => {
-                self.find_peer(asker, call, turn, port, stage, w)
+        let question = question_of(&opening_data, self.state.settings.stream_builder);
+        match self.ask(asker, question, w) {
+            Asked::Found(found) => {
+                let reached = after(call, opening_data, found, &self.state);
+                self.arrive(reached, stage)
             }
-            OpeningData::Asking(turn, Asking::Connection(address)) => {
-                self.reach(asker, call, turn, address, stage, w)
-            }
-            OpeningData::Asking(turn, Asking::Peer(opened)) => {
-                self.know_peer(asker, call, turn, opened, stage, w)
-            }
-            OpeningData::Asking(turn, Asking::Accepting(peer, left, opened)) => {
-                self.let_in(asker, call, turn, peer, left, opened, stage, w)
-            }
-            OpeningData::Asking(turn, Asking::Securing(opened)) => {
-                self.secure(asker, call, turn, opened, stage, w)
-            }
-        }
-    }
-
-    /// It begins where a transfer can be opened; the room for the record of its connection is made first.
-    fn negotiate<W, A: Asks<Tr, W>>(
-        &mut self,
-        _asker: &A,
-        call: &Call,
-        offset: u64,
-        stage: &mut Stage,
-        _w: &mut W,
-    ) -> Step
-    where
-        Tr::Conn: PollConn<W>,
-        requires going { self.old.channel.failed ≡ false }
-        requires opens { negotiates call.now ≡ true }
-        ensures end { self.new.channel.ended ≡ self.old.channel.ended }
-        ensures walks { (coding : Coding) →
-            Walks (asking (A.builds _asker.now) A.may_wait (polling Tr.Conn.PollConn)) coding
-            call.now
-            (Stage.OpeningData (OpeningData.Negotiating offset)) stage.new self.old self.new result }
-    {
-        match self.state.counts.cannot_open() {
-            Some(fault) => return Step::Done(Answer::Fault(fault)),
-            None => {}
-        }
-        if self.transport.make_room().is_err() {
-            return Step::Done(Answer::Fault(FtpError::OutOfMemory));
-        }
-        go_to(stage, first_by(self.state.settings.mode, offset));
-        Step::Next
-    }
-
-    /// The peer's address is looked up: over IPv4 `PASV` follows where `EPSV` is refused.
-    fn choose<W, A: Asks<Tr, W>>(
-        &mut self,
-        asker: &A,
-        _call: &Call,
-        offset: u64,
-        stage: &mut Stage,
-        w: &mut W,
-    ) -> Step
-    where
-        Tr::Conn: PollConn<W>,
-        requires going { self.old.channel.failed ≡ false }
-        requires opens { negotiates _call.now ≡ true }
-        ensures end { self.new.channel.ended ≡ self.old.channel.ended }
-        ensures walks { (coding : Coding) →
-            Walks (asking (A.builds asker.now) A.may_wait (polling Tr.Conn.PollConn)) coding
-            _call.now
-            (Stage.OpeningData (OpeningData.Choosing offset)) stage.new self.old self.new result }
-    {
-        match self.look_there(asker, w) {
-            Ok(peer) => {
-                let tries = is_ipv4(peer);
-                go_to(stage, Stage::At(Turn::ExtendedPassive(offset, tries)));
-                Step::Next
-            }
-            Err(kind) => Step::Done(Answer::Fault(FtpError::ConnectionError(ConnectionError::Io(
-                kind,
-            )))),
-        }
-    }
-
-    /// This end's address is looked up.
-    fn locate<W, A: Asks<Tr, W>>(
-        &mut self,
-        asker: &A,
-        _call: &Call,
-        offset: u64,
-        stage: &mut Stage,
-        w: &mut W,
-    ) -> Step
-    where
-        Tr::Conn: PollConn<W>,
-        requires going { self.old.channel.failed ≡ false }
-        requires opens { negotiates _call.now ≡ true }
-        ensures end { self.new.channel.ended ≡ self.old.channel.ended }
-        ensures walks { (coding : Coding) →
-            Walks (asking (A.builds asker.now) A.may_wait (polling Tr.Conn.PollConn)) coding
-            _call.now
-            (Stage.OpeningData (OpeningData.Locating offset)) stage.new self.old self.new result }
-    {
-        match self.look_here(asker, w) {
-            Ok(local) => {
-                go_to(
-                    stage,
-                    Stage::OpeningData(OpeningData::Binding(local, offset)),
-                );
-                Step::Next
-            }
-            Err(kind) => Step::Done(Answer::Fault(FtpError::ConnectionError(ConnectionError::Io(
-                kind,
-            )))),
-        }
-    }
-
-    /// The transport listens at this end's address, at any free port.
-    fn bind<W, A: Asks<Tr, W>>(
-        &mut self,
-        asker: &A,
-        _call: &Call,
-        local: SocketAddr,
-        offset: u64,
-        stage: &mut Stage,
-        w: &mut W,
-    ) -> Step
-    where
-        Tr::Conn: PollConn<W>,
-        requires going { self.old.channel.failed ≡ false }
-        requires opens { negotiates _call.now ≡ true }
-        requires may { A.may_ask }
-        ensures end { self.new.channel.ended ≡ self.old.channel.ended }
-        ensures walks { (coding : Coding) →
-            Walks (asking (A.builds asker.now) A.may_wait (polling Tr.Conn.PollConn)) coding
-            _call.now
-            (Stage.OpeningData (OpeningData.Binding local offset)) stage.new self.old self.new
-            result }
-    {
-        match self.ask_to_listen(asker, at_port(0, local), w) {
-            Poll::Ready(Ok(RequestOutcome::Address(bound))) => {
-                let told = at_port(bound.port(), local);
-                go_to(stage, Stage::At(Turn::Active(told, offset)));
-                Step::Next
-            }
-            Poll::Ready(Ok(RequestOutcome::Refused(fault))) => refused(fault),
-            Poll::Ready(Ok(RequestOutcome::Done)) => refused(ConnectionError::NoAddress),
-            Poll::Ready(Err(AllocError)) => Step::Done(Answer::Fault(FtpError::OutOfMemory)),
-            Poll::Pending => {
-                go_to(
-                    stage,
-                    Stage::OpeningData(OpeningData::Binding(local, offset)),
-                );
+            Asked::Waits => {
+                go_to(stage, Stage::OpeningData(opening_data));
                 Step::Pending
             }
+            Asked::Failed(kind) => {
+                drop(opening_data);
+                Step::Done(Answer::Fault(FtpError::ConnectionError(ConnectionError::Io(kind))))
+            }
+            Asked::NoMemory => {
+                let begun = has_asked(&opening_data);
+                drop(opening_data);
+                self.abort_dialogue(begun, &FtpError::OutOfMemory);
+                Step::Done(Answer::Fault(FtpError::OutOfMemory))
+            }
         }
     }
 
-    /// The peer's address is looked up, for a connection to a port of it.
-    fn find_peer<W, A: Asks<Tr, W>>(
-        &mut self,
-        asker: &A,
-        _call: &Call,
-        turn: Turn,
-        port: u16,
-        stage: &mut Stage,
-        w: &mut W,
-    ) -> Step
-    where
-        Tr::Conn: PollConn<W>,
-        requires going { self.old.channel.failed ≡ false }
-        requires opens { negotiates _call.now ≡ true }
+    /// The machine gets there.
+    fn arrive(&mut self, reached: Reached, stage: &mut Stage) -> Step
         ensures end { self.new.channel.ended ≡ self.old.channel.ended }
-        ensures walks { (coding : Coding) →
-            Walks (asking (A.builds asker.now) A.may_wait (polling Tr.Conn.PollConn)) coding
-            _call.now
-            (Stage.OpeningData (OpeningData.Asking turn (Asking.PeerPort port))) stage.new self.old
-            self.new result }
+        ensures arrives { Arrives reached stage.new self.old self.new result }
     {
-        match self.look_there(asker, w) {
-            Ok(peer) => {
-                let asking = Asking::Connection(at_port(port, peer));
-                go_to(stage, Stage::OpeningData(OpeningData::Asking(turn, asking)));
+        match reached {
+            Reached::Node(next) => {
+                go_to(stage, next);
                 Step::Next
             }
-            Err(kind) => Step::Done(Answer::Fault(FtpError::ConnectionError(ConnectionError::Io(
-                kind,
-            )))),
-        }
-    }
-
-    /// A connection is made: by the caller's builder, where the session was given one, and by the transport else.
-    fn reach<W, A: Asks<Tr, W>>(
-        &mut self,
-        asker: &A,
-        call: &Call,
-        turn: Turn,
-        address: SocketAddr,
-        stage: &mut Stage,
-        w: &mut W,
-    ) -> Step
-    where
-        Tr::Conn: PollConn<W>,
-        requires going { self.old.channel.failed ≡ false }
-        requires opens { negotiates call.now ≡ true }
-        requires may { A.may_ask }
-        ensures end { self.new.channel.ended ≡ self.old.channel.ended }
-        ensures walks { (coding : Coding) →
-            Walks (asking (A.builds asker.now) A.may_wait (polling Tr.Conn.PollConn)) coding
-            call.now
-            (Stage.OpeningData (OpeningData.Asking turn (Asking.Connection address))) stage.new
-            self.old self.new result }
-    {
-        if self.state.settings.stream_builder {
-            self.construct(asker, call, turn, address, stage, w)
-        } else {
-            self.dial(asker, call, turn, address, stage, w)
-        }
-    }
-
-    /// The transport connects.
-    fn dial<W, A: Asks<Tr, W>>(
-        &mut self,
-        asker: &A,
-        call: &Call,
-        turn: Turn,
-        address: SocketAddr,
-        stage: &mut Stage,
-        w: &mut W,
-    ) -> Step
-    where
-        Tr::Conn: PollConn<W>,
-        requires going { self.old.channel.failed ≡ false }
-        requires opens { negotiates call.now ≡ true }
-        requires may { A.may_ask }
-        requires alone { self.old.state.settings.stream_builder ≡ false }
-        ensures end { self.new.channel.ended ≡ self.old.channel.ended }
-        ensures walks { (coding : Coding) →
-            Walks (asking (A.builds asker.now) A.may_wait (polling Tr.Conn.PollConn)) coding
-            call.now
-            (Stage.OpeningData (OpeningData.Asking turn (Asking.Connection address))) stage.new
-            self.old self.new result }
-    {
-        match self.ask_to_connect(asker, address, w) {
-            Poll::Ready(Ok(outcome)) => connected(call, turn, outcome, stage),
-            Poll::Ready(Err(AllocError)) => self.lack_memory(),
-            Poll::Pending => {
-                go_to(
-                    stage,
-                    Stage::OpeningData(OpeningData::Asking(turn, Asking::Connection(address))),
-                );
-                Step::Pending
+            Reached::Turned(next) => {
+                let _stranger = self.data_conn.take();
+                go_to(stage, next);
+                Step::Next
             }
+            Reached::Opens(answer) => {
+                self.state.counts.open();
+                Step::Done(answer)
+            }
+            Reached::Answers(answer) => Step::Done(answer),
         }
     }
+}
 
-    /// The caller's builder makes the connection. Its error is returned as it is.
-    fn construct<W, A: Asks<Tr, W>>(
-        &mut self,
-        asker: &A,
-        call: &Call,
-        turn: Turn,
-        address: SocketAddr,
-        stage: &mut Stage,
-        w: &mut W,
-    ) -> Step
-    where
-        Tr::Conn: PollConn<W>,
-        requires going { self.old.channel.failed ≡ false }
-        requires opens { negotiates call.now ≡ true }
-        requires may { A.may_ask }
-        requires beside { self.old.state.settings.stream_builder ≡ true }
-        ensures end { self.new.channel.ended ≡ self.old.channel.ended }
-        ensures walks { (coding : Coding) →
-            Walks (asking (A.builds asker.now) A.may_wait (polling Tr.Conn.PollConn)) coding
-            call.now
-            (Stage.OpeningData (OpeningData.Asking turn (Asking.Connection address))) stage.new
-            self.old self.new result }
-    {
-        match self.ask_to_build(asker, address, w) {
-            Ok(None) => go_on(call, turn, stage),
-            Ok(Some(fault)) => Step::Done(Answer::Fault(fault)),
-            Err(AllocError) => self.lack_memory(),
+/// What follows what was found at this place.
+fn after(call: &Call, opening_data: OpeningData, found: Found, state: &State) -> Reached
+    requires opens { negotiates call.now ≡ true }
+    requires fits { Fits (question_at state.now opening_data) found }
+    requires way { WayOf call.now opening_data }
+    ensures { (coding : Coding) → Continues coding call.now opening_data found state.now result }
+{
+    match (opening_data, found) {
+        (OpeningData::Negotiating(offset), Found::Room) => first(state, offset),
+        (OpeningData::Choosing(offset), Found::Address(peer)) => {
+            Reached::Node(Stage::At(Turn::ExtendedPassive(offset, is_ipv4(peer))))
         }
+        (OpeningData::Locating(offset), Found::Address(local)) => {
+            Reached::Node(Stage::OpeningData(OpeningData::Binding(local, offset)))
+        }
+        (OpeningData::Binding(local, offset), Found::Outcome(outcome)) => {
+            listens(local, offset, outcome)
+        }
+        (OpeningData::Asking(turn, asking), found) => {
+            after_asking(call, turn, asking, found, state)
+        }
+        _ => unreachable!(),
     }
+}
 
-    /// The address of this end of the control connection.
-    fn look_here<W, A: Asks<Tr, W>>(
-        &mut self,
-        _asker: &A,
-        _w: &mut W,
-    ) -> Result<SocketAddr, ErrorKind>
-    where
-        Tr::Conn: PollConn<W>,
-        requires going { self.old.channel.failed ≡ false }
-        ensures end { self.new.channel.ended ≡ self.old.channel.ended }
-        ensures looks { LooksUp (asking (A.builds _asker.now) A.may_wait (polling Tr.Conn.PollConn))
-            Here self.old self.new result }
-    {
-        let address = self.channel.local_addr();
-        self.failures.note_control(address.is_err());
-        address
+/// What follows what was found after the reply of this turn.
+fn after_asking(call: &Call, turn: Turn, asking: Asking, found: Found, state: &State) -> Reached
+    requires opens { negotiates call.now ≡ true }
+    requires fits { Fits (question_at state.now (OpeningData.Asking turn asking)) found }
+    requires way { AskingOf call.now asking }
+    ensures { (coding : Coding) →
+        Continues coding call.now (OpeningData.Asking turn asking) found state.now result }
+{
+    match (asking, found) {
+        (Asking::PeerPort(port), Found::Address(peer)) => {
+            asks(turn, Asking::Connection(at_port(port, peer)))
+        }
+        (Asking::Connection(_), Found::Outcome(outcome)) => {
+            connects(next_turn(call, turn), outcome)
+        }
+        (Asking::Connection(_), Found::Made(fault)) => builds(next_turn(call, turn), fault),
+        (Asking::Peer(opened), Found::Address(peer)) => {
+            asks(turn, Asking::Accepting(peer, STRANGERS, opened))
+        }
+        (Asking::Accepting(peer, left, opened), Found::Outcome(outcome)) => {
+            met(state, turn, peer, left, opened, outcome)
+        }
+        (Asking::Securing(opened), Found::Made(fault)) => shaken(opened, fault),
+        _ => unreachable!(),
     }
+}
 
-    /// The address of the other end of the control connection.
-    pub(super) fn look_there<W, A: Asks<Tr, W>>(
-        &mut self,
-        _asker: &A,
-        _w: &mut W,
-    ) -> Result<SocketAddr, ErrorKind>
-    where
-        Tr::Conn: PollConn<W>,
-        requires going { self.old.channel.failed ≡ false }
-        ensures end { self.new.channel.ended ≡ self.old.channel.ended }
-        ensures looks { LooksUp (asking (A.builds _asker.now) A.may_wait (polling Tr.Conn.PollConn))
-            There self.old self.new result }
-    {
-        let address = self.channel.peer_addr();
-        self.failures.note_control(address.is_err());
-        address
-    }
+/// Something is asked after the reply of this turn.
+pub(super) fn asks(turn: Turn, asking: Asking) -> Reached
+    ensures { result ≡ Reached.Node (Stage.OpeningData (OpeningData.Asking turn asking)) }
+{
+    Reached::Node(Stage::OpeningData(OpeningData::Asking(turn, asking)))
+}
 
-    /// Memory ran out after a reply was consumed: the session has failed.
-    pub(super) fn lack_memory(&mut self) -> Step
-        ensures done { result ≡ Step.Done (Answer.Fault FtpError.OutOfMemory) }
-        ensures failed { self.new ≡ failed_from self.old }
-    {
-        self.channel.fail();
-        Step::Done(Answer::Fault(FtpError::OutOfMemory))
+/// The first node, by who opens the data connection; an error where no transfer can be opened.
+fn first(state: &State, offset: u64) -> Reached
+    ensures { result ≡ first_unless (cannot_open state.now.counts) state.now.settings.mode offset }
+{
+    match state.counts.cannot_open() {
+        Some(fault) => Reached::Answers(Answer::Fault(fault)),
+        None => Reached::Node(first_by(state.settings.mode, offset)),
     }
+}
+
+/// The transport listens, and the server is told where.
+fn listens(local: SocketAddr, offset: u64, outcome: RequestOutcome) -> Reached
+    ensures { result ≡ listens_as local offset outcome }
+{
+    match outcome {
+        RequestOutcome::Address(bound) => {
+            Reached::Node(Stage::At(Turn::Active(at_port(bound.port(), local), offset)))
+        }
+        RequestOutcome::Refused(fault) => refused(fault),
+        RequestOutcome::Done => refused(ConnectionError::NoAddress),
+    }
+}
+
+/// The transport connects, and the next turn begins.
+fn connects(next: Option<Turn>, outcome: RequestOutcome) -> Reached
+    ensures { result ≡ connects_as next outcome }
+{
+    match outcome {
+        RequestOutcome::Refused(fault) => refused(fault),
+        RequestOutcome::Done | RequestOutcome::Address(_) => goes_on(next),
+    }
+}
+
+/// The builder made a connection, and the next turn begins; its error is the answer as it is.
+fn builds(next: Option<Turn>, fault: Option<FtpError>) -> Reached
+    ensures { result ≡ builds_as next fault }
+{
+    match fault {
+        None => goes_on(next),
+        Some(fault) => Reached::Answers(Answer::Fault(fault)),
+    }
+}
+
+/// The next turn begins, or the call is done.
+fn goes_on(next: Option<Turn>) -> Reached
+    ensures { result ≡ to_turn next }
+{
+    match next {
+        Some(turn) => Reached::Node(Stage::At(turn)),
+        None => Reached::Answers(Answer::Unit),
+    }
+}
+
+/// A request failed.
+pub(super) fn refused(fault: ConnectionError) -> Reached
+    ensures { result ≡ Reached.Answers (Answer.Fault (FtpError.ConnectionError fault)) }
+{
+    Reached::Answers(Answer::Fault(FtpError::ConnectionError(fault)))
 }
 
 /// The first node, by who opens the data connection.
@@ -391,29 +239,18 @@ fn first_by(mode: Mode, offset: u64) -> Stage
     }
 }
 
+/// Whether a reply was taken on the way to this place.
+fn has_asked(opening_data: &OpeningData) -> bool
+    ensures { result ≡ has_asked opening_data.now }
+{
+    matches!(opening_data, OpeningData::Asking(..))
+}
+
 /// Whether an address is one of IPv4.
 fn is_ipv4(address: SocketAddr) -> bool
     ensures { result ≡ is_ipv4 address }
 {
     matches!(address, SocketAddr::V4(_))
-}
-
-/// A connection was made, or the request failed.
-fn connected(call: &Call, turn: Turn, outcome: RequestOutcome, stage: &mut Stage) -> Step
-    ensures connects { ConnectsTo call.now turn outcome stage.new result }
-{
-    match outcome {
-        RequestOutcome::Refused(fault) => refused(fault),
-        RequestOutcome::Done => go_on(call, turn, stage),
-        RequestOutcome::Address(_address) => go_on(call, turn, stage),
-    }
-}
-
-/// A request failed.
-pub(super) fn refused(fault: ConnectionError) -> Step
-    ensures { result ≡ Step.Done (Answer.Fault (FtpError.ConnectionError fault)) }
-{
-    Step::Done(Answer::Fault(FtpError::ConnectionError(fault)))
 }
 
 /// An address with another port.

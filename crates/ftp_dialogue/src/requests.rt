@@ -1,19 +1,21 @@
-//! What is asked for a data connection: of the transport, of the caller's builder, or of a secure session's connector.
+//! What is asked for a data connection: of the control connection, of the transport, of the caller's builder, or of a
+//! secure session's connector.
 //!
-//! Each function is one question. What comes of it is kept in the machine, and is on the transport's record.
+//! Each function is one question. A connection that comes of it is kept in the machine, and is on the transport's record.
 
-ghost use Rattle.std.specs.Prelude.{◌≡◌, None};
-ghost use Rattle.ftp_transport.specs.declared.request.Request.TheVariants.{Accept, Connect, Listen};
+ghost use Rattle.std.specs.Prelude.{◌≡◌, false};
 ghost use Rattle.ftp_dialogue.specs.Link.{asking, polling};
-ghost use Rattle.ftp_dialogue.specs.Steps.Moving.{AsksFor, BuildsFor, SecuresFor};
+ghost use Rattle.ftp_dialogue.specs.Steps.Questions.{AsksNode, looked_as};
 
 use super::asks::Asks;
 use super::failures::Failure;
 use super::machine::Machine;
+use super::questions::{Asked, Found, Question};
 use ftp_base::types::FtpError;
 use ftp_transport::{Network, PollConn, RequestOutcome, Tells};
 use futures::task::Poll;
 use std::alloc::AllocError;
+use std::io::ErrorKind;
 use std::net::SocketAddr;
 
 impl<Tr: Network> Machine<Tr> {
@@ -24,30 +26,30 @@ impl<Tr: Network> Machine<Tr> {
         asker: &A,
         address: SocketAddr,
         w: &mut W,
-    ) -> Poll<Result<RequestOutcome, AllocError>>
+    ) -> Asked
     where
         Tr::Conn: PollConn<W>,
         requires may { A.may_ask }
         ensures end { self.new.channel.ended ≡ self.old.channel.ended }
-        ensures asks { AsksFor (asking (A.builds asker.now) A.may_wait (polling Tr.Conn.PollConn))
-            (Connect address None) self.old self.new result }
+        ensures asks { AsksNode (asking (A.builds asker.now) A.may_wait (polling Tr.Conn.PollConn))
+            (Question.Connection address) self.old self.new result }
     {
         if self.transport.make_room().is_err() {
-            return Poll::Ready(Err(AllocError));
+            return Asked::NoMemory;
         }
         self.failures.at(address);
         match asker.connect(&mut self.transport, w, address) {
             Poll::Ready(Ok(Ok(mut conn))) => {
                 conn.begin();
                 self.data_conn = Some(conn);
-                Poll::Ready(Ok(RequestOutcome::Done))
+                Asked::Found(Found::Outcome(RequestOutcome::Done))
             }
             Poll::Ready(Ok(Err(fault))) => {
                 self.failures.note_data(true);
-                Poll::Ready(Ok(RequestOutcome::Refused(fault)))
+                Asked::Found(Found::Outcome(RequestOutcome::Refused(fault)))
             }
-            Poll::Ready(Err(full)) => Poll::Ready(Err(full)),
-            Poll::Pending => Poll::Pending,
+            Poll::Ready(Err(AllocError)) => Asked::NoMemory,
+            Poll::Pending => Asked::Waits,
         }
     }
 
@@ -58,30 +60,30 @@ impl<Tr: Network> Machine<Tr> {
         asker: &A,
         address: SocketAddr,
         _w: &mut W,
-    ) -> Result<Option<FtpError>, AllocError>
+    ) -> Asked
     where
         Tr::Conn: PollConn<W>,
         requires may { A.may_ask }
         ensures end { self.new.channel.ended ≡ self.old.channel.ended }
-        ensures builds { BuildsFor (asking (A.builds asker.now) A.may_wait (polling
-            Tr.Conn.PollConn)) address self.old self.new result }
+        ensures asks { AsksNode (asking (A.builds asker.now) A.may_wait (polling Tr.Conn.PollConn))
+            (Question.Building address) self.old self.new result }
     {
         if self.transport.make_room().is_err() {
-            return Err(AllocError);
+            return Asked::NoMemory;
         }
         let Ok(()) = self.transport.note_build(address) else {
-            return Err(AllocError);
+            return Asked::NoMemory;
         };
         self.failures.at(address);
         match asker.build(address) {
             Ok(mut conn) => {
                 conn.begin();
                 self.data_conn = Some(conn);
-                Ok(None)
+                Asked::Found(Found::Made(None))
             }
             Err(fault) => {
                 self.failures.note(Failure::Caller);
-                Ok(Some(fault))
+                Asked::Found(Found::Made(Some(fault)))
             }
         }
     }
@@ -92,49 +94,45 @@ impl<Tr: Network> Machine<Tr> {
         asker: &A,
         address: SocketAddr,
         w: &mut W,
-    ) -> Poll<Result<RequestOutcome, AllocError>>
+    ) -> Asked
     where
         Tr::Conn: PollConn<W>,
         requires may { A.may_ask }
         ensures end { self.new.channel.ended ≡ self.old.channel.ended }
-        ensures asks { AsksFor (asking (A.builds asker.now) A.may_wait (polling Tr.Conn.PollConn))
-            (Listen address) self.old self.new result }
+        ensures asks { AsksNode (asking (A.builds asker.now) A.may_wait (polling Tr.Conn.PollConn))
+            (Question.Listener address) self.old self.new result }
     {
         self.failures.at(address);
         match asker.listen(&mut self.transport, w, address) {
             Poll::Ready(Ok(Ok((listener, bound)))) => {
                 self.listener = Some(listener);
                 self.failures.at(bound);
-                Poll::Ready(Ok(RequestOutcome::Address(bound)))
+                Asked::Found(Found::Outcome(RequestOutcome::Address(bound)))
             }
             Poll::Ready(Ok(Err(fault))) => {
                 self.failures.note_data(true);
-                Poll::Ready(Ok(RequestOutcome::Refused(fault)))
+                Asked::Found(Found::Outcome(RequestOutcome::Refused(fault)))
             }
-            Poll::Ready(Err(full)) => Poll::Ready(Err(full)),
-            Poll::Pending => Poll::Pending,
+            Poll::Ready(Err(AllocError)) => Asked::NoMemory,
+            Poll::Pending => Asked::Waits,
         }
     }
 
     /// Asks the transport for a connection on the listener, and keeps it. A listener stands from the moment that the
     /// server was told of it.
-    pub(super) fn ask_to_accept<W, A: Asks<Tr, W>>(
-        &mut self,
-        asker: &A,
-        w: &mut W,
-    ) -> Poll<Result<RequestOutcome, AllocError>>
+    pub(super) fn ask_to_accept<W, A: Asks<Tr, W>>(&mut self, asker: &A, w: &mut W) -> Asked
     where
         Tr::Conn: PollConn<W>,
         requires may { A.may_ask }
         ensures end { self.new.channel.ended ≡ self.old.channel.ended }
-        ensures asks { AsksFor (asking (A.builds asker.now) A.may_wait (polling Tr.Conn.PollConn))
-            (Accept self.old.state.settings.active_deadline) self.old self.new result }
+        ensures asks { AsksNode (asking (A.builds asker.now) A.may_wait (polling Tr.Conn.PollConn))
+            Question.Peer self.old self.new result }
     {
         let Some(listener) = &mut self.listener else {
-            return Poll::Ready(Err(AllocError));
+            return Asked::NoMemory;
         };
         if self.transport.make_room().is_err() {
-            return Poll::Ready(Err(AllocError));
+            return Asked::NoMemory;
         }
         let deadline = self.state.settings.active_deadline;
         match asker.accept(&mut self.transport, w, listener, deadline) {
@@ -142,34 +140,30 @@ impl<Tr: Network> Machine<Tr> {
                 conn.begin();
                 self.data_conn = Some(conn);
                 self.failures.at(from);
-                Poll::Ready(Ok(RequestOutcome::Address(from)))
+                Asked::Found(Found::Outcome(RequestOutcome::Address(from)))
             }
             Poll::Ready(Ok(Err(fault))) => {
                 self.data_conn = None;
                 self.failures.note_data(true);
-                Poll::Ready(Ok(RequestOutcome::Refused(fault)))
+                Asked::Found(Found::Outcome(RequestOutcome::Refused(fault)))
             }
-            Poll::Ready(Err(full)) => Poll::Ready(Err(full)),
-            Poll::Pending => Poll::Pending,
+            Poll::Ready(Err(AllocError)) => Asked::NoMemory,
+            Poll::Pending => Asked::Waits,
         }
     }
 
     /// Asks for the data connection to be put under TLS, and keeps what comes of it. While that waits the transport has
     /// the connection.
-    pub(super) fn ask_to_secure<W, A: Asks<Tr, W>>(
-        &mut self,
-        asker: &A,
-        w: &mut W,
-    ) -> Poll<Result<Option<FtpError>, AllocError>>
+    pub(super) fn ask_to_secure<W, A: Asks<Tr, W>>(&mut self, asker: &A, w: &mut W) -> Asked
     where
         Tr::Conn: PollConn<W>,
         requires may { A.may_ask }
         ensures end { self.new.channel.ended ≡ self.old.channel.ended }
-        ensures secures { SecuresFor (asking (A.builds asker.now) A.may_wait (polling
-            Tr.Conn.PollConn)) self.old self.new result }
+        ensures asks { AsksNode (asking (A.builds asker.now) A.may_wait (polling Tr.Conn.PollConn))
+            Question.Handshake self.old self.new result }
     {
         if self.transport.make_room().is_err() {
-            return Poll::Ready(Err(AllocError));
+            return Asked::NoMemory;
         }
         let conn = self.data_conn.take();
         self.data_conn = None;
@@ -177,14 +171,52 @@ impl<Tr: Network> Machine<Tr> {
             Poll::Ready(Ok(Ok(mut conn))) => {
                 conn.begin();
                 self.data_conn = Some(conn);
-                Poll::Ready(Ok(None))
+                Asked::Found(Found::Made(None))
             }
             Poll::Ready(Ok(Err(fault))) => {
                 self.failures.note_data(true);
-                Poll::Ready(Ok(Some(fault)))
+                Asked::Found(Found::Made(Some(fault)))
             }
-            Poll::Ready(Err(full)) => Poll::Ready(Err(full)),
-            Poll::Pending => Poll::Pending,
+            Poll::Ready(Err(AllocError)) => Asked::NoMemory,
+            Poll::Pending => Asked::Waits,
         }
+    }
+
+    /// The address of this end of the control connection.
+    pub(super) fn look_here<W, A: Asks<Tr, W>>(&mut self, _asker: &A, _w: &mut W) -> Asked
+    where
+        Tr::Conn: PollConn<W>,
+        requires going { self.old.channel.failed ≡ false }
+        ensures end { self.new.channel.ended ≡ self.old.channel.ended }
+        ensures asks { AsksNode (asking (A.builds _asker.now) A.may_wait (polling Tr.Conn.PollConn))
+            Question.OwnAddress self.old self.new result }
+    {
+        let address = self.channel.local_addr();
+        self.failures.note_control(address.is_err());
+        looked(address)
+    }
+
+    /// The address of the other end of the control connection.
+    pub(super) fn look_there<W, A: Asks<Tr, W>>(&mut self, _asker: &A, _w: &mut W) -> Asked
+    where
+        Tr::Conn: PollConn<W>,
+        requires going { self.old.channel.failed ≡ false }
+        ensures end { self.new.channel.ended ≡ self.old.channel.ended }
+        ensures asks { AsksNode (asking (A.builds _asker.now) A.may_wait (polling Tr.Conn.PollConn))
+            Question.PeerAddress self.old self.new result }
+    {
+        let address = self.channel.peer_addr();
+        self.failures.note_control(address.is_err());
+        looked(address)
+    }
+}
+
+/// An address was looked up.
+fn looked(outcome: Result<SocketAddr, ErrorKind>) -> Asked
+    ensures { result ≡ looked_as outcome }
+{
+    match outcome {
+        Ok(address) => Asked::Found(Found::Address(address)),
+        Err(kind) => Asked::Failed(kind),
     }
 }

@@ -10,7 +10,7 @@ ghost use Rattle.ftp_dialogue.specs.Coding.{Coding, coding_of};
 ghost use Rattle.ftp_dialogue.specs.Dialogue.{Tree, armed};
 ghost use Rattle.ftp_calls.specs.Exchanges.{finishes, is_read, negotiates};
 ghost use Rattle.ftp_dialogue.specs.Link.{asking, polling};
-ghost use Rattle.ftp_dialogue.specs.Promises.{Rests};
+ghost use Rattle.ftp_dialogue.specs.Promises.{Rests, failed_from};
 ghost use Rattle.ftp_dialogue.specs.Steps.Moving.{BeginsExchange, Concludes, EndsFaulty, HasBegun, PollSteps, Quiet, Steps, Tracks, after_fault};
 ghost use Rattle.ftp_dialogue.specs.Steps.Stages.{PollAnswers, StageAfter, StageOf, StepAnswers, begun_at, nodes_left, remaining};
 
@@ -286,6 +286,15 @@ impl<Tr: Network> Machine<Tr> {
         if wants_memory(fault) && begun {
             self.channel.fail();
         }
+    }
+
+    /// Memory ran out after a reply was consumed: the session has failed.
+    pub(super) fn lack_memory(&mut self) -> Step
+        ensures done { result ≡ Step.Done (Answer.Fault FtpError.OutOfMemory) }
+        ensures failed { self.new ≡ failed_from self.old }
+    {
+        self.channel.fail();
+        Step::Done(Answer::Fault(FtpError::OutOfMemory))
     }
 
     /// A dialogue ends with an error in place of a reply: what is returned, and what it leaves.

@@ -1,19 +1,16 @@
 -- What a step of a dialogue does: whatever the server still sends, and whatever room there is, the tree before it and
 -- the tree after it result in the same. Beside what is promised it keeps how much is kept of a reply under way.
-use Rattle.std.specs.Prelude.{◌++◌, ◌==◌, ◌≡◌, ◌<◌, ◌≤◌, ◌+◌, ◌⊎◌, nat_le, ◌∷◌, ℕ, zero, suc, Bool, true, false, ◌&&◌, if◌then◌else◌, Option, Some, None, List, [], drop, length, Result, Ok, Err}
+use Rattle.std.specs.Prelude.{◌++◌, ◌==◌, ◌≡◌, ◌<◌, ◌≤◌, ◌+◌, ◌⊎◌, nat_le, ◌∷◌, ℕ, Bool, true, false, ◌&&◌, if◌then◌else◌, Option, None, List, [], drop, length, Result, Ok, Err}
 use Rattle.futures.specs.declared.task.Poll.{Poll}
 use Rattle.futures.specs.declared.task.Poll.TheVariants as poll
 use Rattle.ftp_base.specs.declared.types.reply.Response.{Response}
 use Rattle.ftp_base.specs.declared.types.fault.FtpError.{FtpError}
 use Rattle.ftp_base.specs.declared.types.fault.FtpError.TheVariants.{ConnectionError, UnexpectedResponse, OutOfMemory, SessionFailed}
 use Rattle.ftp_transport.specs.Told.{IsDry, IsFull}
-use Rattle.ftp_transport.specs.declared.request.Request.{Request}
-use Rattle.ftp_transport.specs.declared.request.RequestOutcome.{RequestOutcome}
-use Rattle.ftp_transport.specs.declared.request.RequestOutcome.TheVariants as outcomes
 use Rattle.std.specs.declared.alloc.AllocError.{AllocError}
 use Rattle.std.specs.declared.io.ErrorKind.{ErrorKind}
 use Rattle.std.specs.declared.net.socket_addr.SocketAddr.{SocketAddr}
-use Rattle.ftp_base.specs.declared.types.fault.ConnectionError.TheVariants.{Io, NoAddress, TimedOut}
+use Rattle.ftp_base.specs.declared.types.fault.ConnectionError.TheVariants.{Io}
 use Rattle.ftp_dialogue.specs.Play.{Taken, play}
 use Rattle.ftp_control.specs.Channel.{untaken}
 use Rattle.ftp_control.specs.Saying.{due, said}
@@ -40,8 +37,6 @@ use Rattle.ftp_dialogue.specs.declared.stage.Asking.{Asking}
 use Rattle.ftp_dialogue.specs.declared.stage.Asking.TheVariants.{PeerPort, Connection, Peer, Accepting, Securing}
 use Rattle.ftp_dialogue.specs.declared.stage.Awaits.{Awaits}
 use Rattle.ftp_dialogue.specs.declared.stage.Stage.{Stage}
-use Rattle.ftp_dialogue.specs.declared.stage.Stage.TheVariants.{OpeningData, Transferring}
-use Rattle.ftp_dialogue.specs.declared.stage.OpeningData.TheVariants.{Asking as Asks}
 use Rattle.ftp_dialogue.specs.declared.stage.Step.{Step}
 use Rattle.ftp_dialogue.specs.declared.stage.Step.TheVariants.{Next, Pending, Done}
 use Rattle.ftp_dialogue.specs.State.{SessionValue, LetsGo}
@@ -55,11 +50,11 @@ use Rattle.ftp_calls.specs.declared.exchange.Row.{Row}
 use Rattle.ftp_calls.specs.declared.exchange.Row.TheVariants.{Exchanges, Arms}
 use Rattle.ftp_calls.specs.declared.exchange.Row.TheVariants as row
 use Rattle.ftp_calls.specs.Exchanges.{is_draining, is_local, is_read, row_of, Kind, Nothing, kind_of, kind_of_task}
-use Rattle.ftp_dialogue.specs.Dialogue.{Expected, End, Tree, Say, Hear, Look, Ask, Build, Secure, Move, Leaf, accepted, asking_passive, chunk, fetched, first_fault, later, lets_in, moved_answer, performing, too_long, unfetched, wants_memory, with_abandoned, with_fetched, set_to, answer_to_fault, after_fault_of, with_left, with_transfer, dialogue}
+use Rattle.ftp_dialogue.specs.Dialogue.{Expected, End, Tree, Say, Hear, Look, Ask, Build, Secure, Move, Leaf, accepted, asking_passive, chunk, fetched, first_fault, later, moved_answer, performing, too_long, unfetched, wants_memory, with_abandoned, with_fetched, set_to, answer_to_fault, after_fault_of, with_left, dialogue}
 use Rattle.ftp_base.specs.Ascii.{most_bytes}
 use Rattle.ftp_dialogue.specs.Resuming.{Modes, Resumes, Silent, modes_of}
 use Rattle.ftp_dialogue.specs.Promises.{DrainsIf, due_of, AbortsRead, IsFault, Keeps, Leads, Completes, Aborts, However, SaidOrTaken, Untouched, Rests, IsRefused, begun_by, failed_from, refusal_of, IsApart}
-use Rattle.ftp_dialogue.specs.Steps.Stages.{AnswersKind, Begun, GoesOnTo, NotBegun, StageAfter, StepAnswers, asking_of, nodes_left, remaining, begun_at, is_later}
+use Rattle.ftp_dialogue.specs.Steps.Stages.{AnswersKind, Begun, NotBegun, StageAfter, StepAnswers, asking_of, nodes_left, remaining, begun_at, is_later}
 use Rattle.ftp_dialogue.specs.Link.{Link}
 
 -- no more lies ahead than lay there and came
@@ -284,23 +279,6 @@ LooksUp link end old new (Err kind) = (begun : Bool) (next : SocketAddr → Tree
 abbrev pub MovesBy : Link → Movement → SessionValue → SessionValue → NetOutcome → Type 0
 MovesBy link movement old new outcome = (next : NetOutcome → Tree) → Still link (Move movement next) (next outcome) old new
 
--- the transport was asked, or will be again
-abbrev pub AsksFor : Link → Request → SessionValue → SessionValue → Poll (Result RequestOutcome AllocError) → Type 0
-AsksFor link request old new (poll.Ready (Ok outcome)) = (next : RequestOutcome → Tree) → Still link (Ask request next) (next outcome) old new
-AsksFor link request old new (poll.Ready (Err full)) = (tree : Tree) → Still link tree tree old new
-AsksFor link request old new poll.Pending = ((tree : Tree) → Still link tree tree old new) × link.asks_wait
-
--- the builder was asked; or memory ran out, and it wasn't
-abbrev pub BuildsFor : Link → SocketAddr → SessionValue → SessionValue → Result (Option FtpError) AllocError → Type 0
-BuildsFor link address old new (Ok fault) = (next : Option FtpError → Tree) → Still link (Build address next) (next fault) old new
-BuildsFor link address old new (Err full) = (tree : Tree) → Still link tree tree old new
-
--- the connector was asked to put the data connection under TLS, which it has from then on; or will be again, or can't be
-abbrev pub SecuresFor : Link → SessionValue → SessionValue → Poll (Result (Option FtpError) AllocError) → Type 0
-SecuresFor link old new (poll.Ready (Ok fault)) = (next : Option FtpError → Tree) → Still link (Secure next) (next fault) old new
-SecuresFor link old new (poll.Ready (Err full)) = (next : Option FtpError → Tree) → Still link (Secure next) (Secure next) old new
-SecuresFor link old new poll.Pending = ((next : Option FtpError → Tree) → Still link (Secure next) (Secure next) old new) × link.asks_wait
-
 -- a dialogue begins: a line that is said first is said, whatever is kept of a reply
 abbrev pub BeginsHere : Link → Tree → SessionValue → SessionValue → Type 0
 BeginsHere link tree old new = link.tells → Speaks tree ⊎ Resumes (modes_of old) old.channel.kept tree → SaidOrTaken old new
@@ -421,45 +399,6 @@ withheld v = if v.channel.failed then SessionFailed else OutOfMemory
 -- a stranger was dropped: another may come, or the one after so many was as good as the deadline
 abbrev pub dropped : SessionValue → SessionValue
 dropped v = record v { net = record v.net { data_conn = None } }
-
-abbrev pub TurnsAway : Turn → SocketAddr → ℕ → Opening → Stage → SessionValue → SessionValue → Step → Type 0
-TurnsAway turn peer left opened stage old new Next = (rest : ℕ) × (left ≡ suc rest) × (stage ≡ OpeningData (Asks turn (Accepting peer rest opened))) × (new ≡ dropped old)
-TurnsAway turn peer left opened stage old new Pending = ⊥
-TurnsAway turn peer left opened stage old new (Done last) = (left ≡ zero) × (last ≡ Fault (ConnectionError TimedOut)) × (new ≡ old)
-
--- a connection was made, and the next turn begins; or it was refused
-abbrev pub ConnectsTo : Call → Turn → RequestOutcome → Stage → Step → Type 0
-ConnectsTo call turn outcomes.Done stage result = GoesOnTo call turn stage result
-ConnectsTo call turn (outcomes.Address address) stage result = GoesOnTo call turn stage result
-ConnectsTo call turn (outcomes.Refused fault) stage result = result ≡ Done (Fault (ConnectionError fault))
-
--- the data connection stands: a transfer is live, and that is the answer; or a whole file or listing goes over it
-abbrev pub Stands : Opening → Stage → SessionValue → SessionValue → Step → Type 0
-Stands (GivesAnswer answer) stage old new result = (result ≡ Done answer) × (new ≡ record old { state = with_transfer old.state })
-Stands (PerformsAll task) stage old new result = (result ≡ Next) × (stage ≡ Transferring (fetch.Starting task)) × (new ≡ old)
-
--- a handshake is over: the data connection stands, or the call ends with why it failed
-abbrev pub StandsUnless : Option FtpError → Opening → Stage → SessionValue → SessionValue → Step → Type 0
-StandsUnless None opened stage old new result = Stands opened stage old new result
-StandsUnless (Some fault) opened stage old new result = (result ≡ Done (Fault fault)) × (new ≡ old)
-
--- a peer was let in: in a secure session its connection is put under TLS
-abbrev pub LetsInIf : Bool → Turn → Opening → Stage → SessionValue → SessionValue → Step → Type 0
-LetsInIf true turn opened stage old new result = (result ≡ Next) × (stage ≡ OpeningData (Asks turn (Securing opened))) × (new ≡ old)
-LetsInIf false turn opened stage old new result = Stands opened stage old new result
-
-abbrev pub LetsIn : Turn → Opening → Stage → SessionValue → SessionValue → Step → Type 0
-LetsIn turn opened stage old new result = LetsInIf old.state.settings.secure turn opened stage old new result
-
--- a peer came: one that is let in opens the transfer, another is dropped; or none came
-abbrev pub MeetsIf : Bool → Turn → SocketAddr → ℕ → Opening → Stage → SessionValue → SessionValue → Step → Type 0
-MeetsIf true turn peer left opened stage old new result = LetsIn turn opened stage old new result
-MeetsIf false turn peer left opened stage old new result = TurnsAway turn peer left opened stage old new result
-
-abbrev pub Meets : RequestOutcome → Turn → SocketAddr → ℕ → Opening → Stage → SessionValue → SessionValue → Step → Type 0
-Meets (outcomes.Address from) turn peer left opened stage old new result = MeetsIf (lets_in old.state peer from) turn peer left opened stage old new result
-Meets (outcomes.Refused fault) turn peer left opened stage old new result = (new ≡ old) × (result ≡ Done (Fault (ConnectionError fault)))
-Meets outcomes.Done turn peer left opened stage old new result = (new ≡ old) × (result ≡ Done (Fault (ConnectionError NoAddress)))
 
 -- a setting changes; or there is no memory for a copy of it, and nothing does
 abbrev pub Sets : Setting → SessionValue → SessionValue → Answer → Type 0

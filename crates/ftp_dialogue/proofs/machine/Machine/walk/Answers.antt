@@ -1,28 +1,41 @@
+use Rattle.std.proofs.Common.{ap, sym, subst, ◌∙◌}
+use Rattle.ftp_calls.specs.declared.call.Answer.TheVariants.{Unit}
+use Rattle.ftp_dialogue.specs.declared.state.State.{State}
+use Rattle.ftp_dialogue.specs.Dialogue.{Leaf}
+use Rattle.ftp_dialogue.proofs.Questioning.{fails_walks, found_walks, lacks_walks, waits_walks}
+use Rattle.ftp_dialogue.specs.Steps.Questions.{Continues, Fits, question_at}
 use Rattle.ftp_dialogue.proofs.machine.Machine.walk.Goals as goal
 
-pub returns-in-Negotiating-clause-walks : goal.returns-in-Negotiating-clause-walks
-returns-in-Negotiating-clause-walks g c = λ coding. rw (c.in-Negotiating.is) (c.negotiate.ensures.walks coding)
+pub after-reached-requires-clause-fits : goal.after-reached-requires-clause-fits
+after-reached-requires-clause-fits g c =
+    let question = c.question_of-question.ensures ∙ ap (λ v. question_at v.state c.args.opening_data) c.self.view_is in
+    let asks = rw (c.in-Found.is, question) at c.ask.ensures.asks in
+    let same = (asks.1 (λ came. Leaf Unit c.args.self.now.state)).advances.moves.state in
+    let F : State → Type 0 = λ state. Fits (question_at state c.args.opening_data) c.in-Found.found in
+    subst F (sym same ∙ sym (ap (λ v. v.state) c.self-in-Found.view_is)) asks.0
 
-pub returns-in-Choosing-clause-walks : goal.returns-in-Choosing-clause-walks
-returns-in-Choosing-clause-walks g c = λ coding. rw (c.in-Choosing.is) (c.choose.ensures.walks coding)
+pub returns-in-Found-clause-walks : goal.returns-in-Found-clause-walks
+returns-in-Found-clause-walks g c = λ coding.
+    let question = c.question_of-question.ensures ∙ ap (λ v. question_at v.state c.args.opening_data) c.self.view_is in
+    let asks = rw (c.in-Found.is, question) at c.ask.ensures.asks in
+    let C : State → Type 0 = λ state. Continues coding c.args.call.now c.args.opening_data c.in-Found.found state c.after-reached.result in
+    let continues = subst C (ap (λ v. v.state) c.self-in-Found.view_is) (c.after-reached.ensures coding) in
+    found_walks _ coding _ c.args.opening_data c.requires.opens c.in-Found.found _ _ c.args.self.now c.ask.new.self _ _ asks continues c.arrive.ensures.arrives
 
-pub returns-in-Locating-clause-walks : goal.returns-in-Locating-clause-walks
-returns-in-Locating-clause-walks g c = λ coding. rw (c.in-Locating.is) (c.locate.ensures.walks coding)
+pub returns-in-Waits-clause-walks : goal.returns-in-Waits-clause-walks
+returns-in-Waits-clause-walks g c = λ coding.
+    let question = c.question_of-question.ensures ∙ ap (λ v. question_at v.state c.args.opening_data) c.self.view_is in
+    let asks = rw (c.in-Waits.is, question) at c.ask.ensures.asks in
+    rw c.go_to.ensures (waits_walks _ coding _ c.args.opening_data c.requires.opens c.args.self.now c.ask.new.self c.requires.way asks)
 
-pub returns-in-Binding-clause-walks : goal.returns-in-Binding-clause-walks
-returns-in-Binding-clause-walks g c = λ coding. rw (c.in-Binding.is) (c.bind.ensures.walks coding)
+pub returns-in-Failed-clause-walks : goal.returns-in-Failed-clause-walks
+returns-in-Failed-clause-walks g c = λ coding.
+    let question = c.question_of-question.ensures ∙ ap (λ v. question_at v.state c.args.opening_data) c.self.view_is in
+    let asks = rw (c.in-Failed.is, question) at c.ask.ensures.asks in
+    fails_walks _ coding _ c.args.opening_data c.requires.opens _ c.in-Failed.kind c.args.self.now c.ask.new.self asks
 
-pub returns-in-Asking-default-PeerPort-clause-walks : goal.returns-in-Asking-default-PeerPort-clause-walks
-returns-in-Asking-default-PeerPort-clause-walks g c = λ coding. rw (c.in-Asking-default-PeerPort.is, c.in-Asking-default-PeerPort.field-1-is) (c.find_peer.ensures.walks coding)
-
-pub returns-in-Asking-default-Connection-clause-walks : goal.returns-in-Asking-default-Connection-clause-walks
-returns-in-Asking-default-Connection-clause-walks g c = λ coding. rw (c.in-Asking-default-Connection.is, c.in-Asking-default-Connection.field-1-is) (c.reach.ensures.walks coding)
-
-pub returns-in-Asking-default-Peer-clause-walks : goal.returns-in-Asking-default-Peer-clause-walks
-returns-in-Asking-default-Peer-clause-walks g c = λ coding. rw (c.in-Asking-default-Peer.is, c.in-Asking-default-Peer.field-1-is) (c.know_peer.ensures.walks coding)
-
-pub returns-in-Asking-default-Accepting-clause-walks : goal.returns-in-Asking-default-Accepting-clause-walks
-returns-in-Asking-default-Accepting-clause-walks g c = λ coding. rw (c.in-Asking-default-Accepting.is, c.in-Asking-default-Accepting.field-1-is) (c.let_in.ensures.walks coding)
-
-pub returns-in-Asking-default-Securing-clause-walks : goal.returns-in-Asking-default-Securing-clause-walks
-returns-in-Asking-default-Securing-clause-walks g c = λ coding. rw (c.in-Asking-default-Securing.is, c.in-Asking-default-Securing.field-1-is) (c.secure.ensures.walks coding)
+pub returns-in-NoMemory-clause-walks : goal.returns-in-NoMemory-clause-walks
+returns-in-NoMemory-clause-walks g c = λ coding.
+    let question = c.question_of-question.ensures ∙ ap (λ v. question_at v.state c.args.opening_data) c.self.view_is in
+    let asks = rw (c.in-NoMemory.is, question) at c.ask.ensures.asks in
+    rw (c.abort_dialogue.ensures, c.has_asked-begun.ensures) (lacks_walks _ coding _ c.args.opening_data c.requires.opens _ c.args.self.now c.ask.new.self c.requires.going asks)
