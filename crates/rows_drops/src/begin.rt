@@ -3,15 +3,12 @@
 //! All calls are one type of future: a function that is generic over futures is dear to prove at each type that it is called
 //! at.
 
-use crate::counter::Counter;
 use crate::gains::{Gains, Outcome, Stream};
 use crate::script::Asked;
 use crate::slow::SlowTransport;
 use ftp_base::encoding::Utf8Encoding;
 use ftp_base::types::Response;
-use ftp_polled::{
-    Abort, Adjust, Dialogue, Finish, ImplAsyncFtpStream, Lock, OpenTransfer, Retrieve, Upload,
-};
+use ftp_polled::{Abort, Adjust, Dialogue, Finish, ImplAsyncFtpStream, Lock, OpenTransfer};
 use ftp_session::session::{Call, NoStreamBuilder, NoTlsConnector, Setting};
 use futures::Future;
 use futures::task::{Context, Poll};
@@ -47,12 +44,6 @@ pub enum State<'r, R> {
     Lines(Gives<'r, R, Vec<String>>),
     /// A call that opens a transfer.
     Open(OpenTransfer<'r, R, SlowTransport, NoTlsConnector, Utf8Encoding, NoStreamBuilder>),
-    /// An upload from a source.
-    Upload(Upload<'r, R, SlowTransport, NoTlsConnector, Utf8Encoding, NoStreamBuilder, &'r [u8]>),
-    /// A download by a reader.
-    Download(
-        Retrieve<'r, R, SlowTransport, NoTlsConnector, Utf8Encoding, NoStreamBuilder, Counter>,
-    ),
     /// The end of a transfer.
     Finish(Finish<'r, R, SlowTransport, NoTlsConnector, Utf8Encoding, NoStreamBuilder>),
     /// A transfer is aborted.
@@ -84,8 +75,6 @@ impl<R: AllocGlobal> Future for State<'_, R> {
             State::Bytes(call) => polled!(call, cx, Bytes),
             State::Lines(call) => polled!(call, cx, Lines),
             State::Open(call) => polled!(call, cx, Opened),
-            State::Upload(call) => polled!(call, cx, Count),
-            State::Download(call) => polled!(call, cx, Count),
             State::Finish(call) => polled!(call, cx, Unit),
             State::Abort(call) => polled!(call, cx, Unit),
             State::Set(call) => polled!(call, cx, Unit),
@@ -110,9 +99,6 @@ pub fn begin<'r, R: AllocGlobal>(
             Call::Abort => Ok(State::Abort(transfer(gains)?.abort(rt))),
             _ => made(rt, client, call),
         },
-        Asked::RetrCounted(path) => {
-            Ok(State::Download(client.retr(rt, path.as_str(), Counter { count: 0 })))
-        }
         Asked::Lend => Ok(State::Lend(client.get_ref())),
     }
 }
@@ -146,9 +132,6 @@ fn made<'r, R: AllocGlobal>(
         Call::List(path) => State::Lines(client.list(rt, optional(path))),
         Call::RetrAsStream(path) => State::Open(client.retr_as_stream(rt, path.as_str())),
         Call::PutWithStream(path) => State::Open(client.put_with_stream(rt, path.as_str())),
-        Call::PutFile(path, bytes) => {
-            State::Upload(client.put_file(rt, path.as_str(), bytes.as_slice()))
-        }
         Call::Set(Setting::Mode(mode)) => State::Set(client.set_mode(rt, *mode)),
         _ => return Err(RowError::NotUnderstood),
     })

@@ -5,7 +5,7 @@ use ftp_base::types::{FtpResult, Response};
 use ftp_polled::{ControlSocket, TransferStream};
 use ftp_session::session::Answer;
 use ftp_transfer::mark::Left;
-use rows_plays::{bytes, count, lines, reply, size, text_of, unit};
+use rows_plays::{bytes, lines, reply, size, text_of, unit};
 use std::alloc::{AllocError, Global};
 use std::collections::VecDeque;
 
@@ -46,8 +46,6 @@ pub enum Outcome {
     Reply(FtpResult<Response>),
     /// The size of a file.
     Size(FtpResult<usize>),
-    /// How many bytes were moved.
-    Count(FtpResult<u64>),
     /// A whole file.
     Bytes(FtpResult<Vec<u8>>),
     /// A listing.
@@ -68,7 +66,6 @@ impl Outcome {
             Outcome::Unit(outcome) => unit(outcome),
             Outcome::Reply(outcome) => reply(outcome),
             Outcome::Size(outcome) => size(outcome),
-            Outcome::Count(outcome) => count(outcome),
             Outcome::Bytes(outcome) => bytes(outcome),
             Outcome::Lines(outcome) => lines(outcome),
             Outcome::Opened(outcome) => opened(outcome, gains)?,

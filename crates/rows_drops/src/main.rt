@@ -8,7 +8,6 @@
 
 mod advance;
 mod begin;
-mod counter;
 mod gains;
 mod play;
 mod scene;

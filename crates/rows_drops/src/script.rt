@@ -1,9 +1,8 @@
 //! What a row says: what the server and its data connections send, and the steps of the client.
 
-use ftp_base::types::Text;
 use ftp_session::session::Call;
 use rows_plays::{boxed, call};
-use rows_text::{RowError, bytes_of, pair, text, value};
+use rows_text::{RowError, bytes_of, pair, value};
 use std::alloc::{AllocError, Global};
 
 /// What a line says.
@@ -112,8 +111,6 @@ impl Polls {
 pub enum Asked {
     /// A call of the words that all rows have.
     Call(Call),
-    /// `retr_counted NAME`: a download by a caller-supplied reader, which counts its bytes.
-    RetrCounted(Text),
     /// `lend`: the control connection, which the row keeps until `return`.
     Lend,
 }
@@ -237,10 +234,9 @@ fn step_of(alloc: Global, kind: Kind, rest: &str, at_once: bool) -> Result<Step,
 
 /// What words ask for.
 fn asked_of(alloc: Global, words: &str) -> Result<Box<Asked>, RowError> {
-    let asked = match words.split_once(' ') {
-        Some(("retr_counted", path)) => Asked::RetrCounted(text(alloc, path)?),
-        None if words == "lend" => Asked::Lend,
-        _ => Asked::Call(call(alloc, words)?),
+    let asked = match words {
+        "lend" => Asked::Lend,
+        words => Asked::Call(call(alloc, words)?),
     };
     Ok(boxed(alloc, asked)?)
 }
