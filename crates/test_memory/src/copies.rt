@@ -163,11 +163,12 @@ where
 {
     let scene = scene_of(rt.alloc(), REPLIES)?;
     let mut put = scene.client.put_with_stream(rt, "a");
-    let mut waits = 0;
-    while waits < MOST && polled(rt, &mut put, 1).is_none() {
-        waits += 1;
+    for waits in 0..MOST {
+        if polled(rt, &mut put, 1).is_some() {
+            return Ok(waits);
+        }
     }
-    Ok(waits)
+    Ok(MOST)
 }
 
 /// A file is dropped at each wait after its command was accepted: how many such waits there are, and after how many of them
