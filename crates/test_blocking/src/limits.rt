@@ -12,7 +12,7 @@ use std::test::Fail;
 use std::time::{Clock, Duration};
 
 /// The limit, in milliseconds.
-const LIMIT: u64 = 400;
+const LIMIT: u64 = 1200;
 
 /// The kind of the error of a call that a connection's error ended.
 fn kind_of<T: Drop>(answer: FtpResult<T>) -> Option<ErrorKind> {

@@ -16,7 +16,7 @@ use std::{io, thread};
 use test_loopback::{Runtime, listening, running};
 
 /// The limit, in milliseconds.
-const LIMIT: u64 = 400;
+const LIMIT: u64 = 1200;
 
 /// A client whose reads wait no longer than so many milliseconds.
 pub fn client<R>(
