@@ -27,7 +27,7 @@ use Rattle.ftp_dialogue.specs.Dialogue.{Say, aborting, breaking_off, from_turn}
 use Rattle.ftp_dialogue.specs.Link.{Link}
 use Rattle.ftp_dialogue.specs.Promises.{Aborts}
 use Rattle.ftp_dialogue.specs.State.{SessionValue}
-use Rattle.ftp_dialogue.specs.Steps.Moving.{BeginsHere, BreaksOff, Ends, HasBegun, SaysNode, TakesLine}
+use Rattle.ftp_dialogue.specs.Steps.Moving.{BeginsHere, MakesStep, Ends, HasBegun, SaysNode, TakesLine}
 use Rattle.ftp_dialogue.specs.Steps.Stages.{StepAnswers, abort_left, begun_at, has_sent}
 use Rattle.ftp_dialogue.proofs.Moving.{lacks_memory_first, refused_line, stays_put, untouched}
 use Rattle.ftp_dialogue.proofs.NegotiationLemmas.{moved_still, unchanged_still}
@@ -35,7 +35,7 @@ use Rattle.ftp_dialogue.proofs.Stages.{line_begins, line_gone}
 
 module _ (link : Link) (coding : Coding) (call : Call) (is_abort : aborts call ≡ true) where
   -- its line is made
-  pub worded : (line : List ℕ) (v : SessionValue) → wire coding.encode (text_of Abor) ≡ Ok line → BreaksOff link coding call (Aborting Wording) (Aborting (Sending (Some line))) v v Next
+  pub worded : (line : List ℕ) (v : SessionValue) → wire coding.encode (text_of Abor) ≡ Ok line → MakesStep link coding call (Aborting Wording) (Aborting (Sending (Some line))) v v Next
   worded line v is =
       let there : abort_left coding call v.state (Sending (Some line)) ≡ aborting coding call v.state = ap (λ l. Say l (breaking_off coding call v.state)) (sym is) in
       record {
@@ -60,7 +60,7 @@ module _ (link : Link) (coding : Coding) (call : Call) (is_abort : aborts call �
   unworded_ends DataConnectionAlreadyOpen v is = absurd is
   unworded_ends SessionFailed v is = absurd is
 
-  pub unworded : (fault : FtpError) (stage' : Stage) (v : SessionValue) → IsRefusalOf (wire coding.encode (text_of Abor)) fault → BreaksOff link coding call (Aborting Wording) stage' v v (Done (Fault fault))
+  pub unworded : (fault : FtpError) (stage' : Stage) (v : SessionValue) → IsRefusalOf (wire coding.encode (text_of Abor)) fault → MakesStep link coding call (Aborting Wording) stage' v v (Done (Fault fault))
   unworded fault stage' v is = record {
     steps = unworded_ends fault v is;
     quiet = tt;
@@ -82,7 +82,7 @@ module _ (link : Link) (coding : Coding) (call : Call) (is_abort : aborts call �
 
   module _ (line line' : Option (List ℕ)) (old new : SessionValue) where
     -- it has gone out
-    pub sent : TakesLine link line line' old new Next → SaysNode link line line' old new Next → BreaksOff link coding call (Aborting (Sending line)) (Aborting ClosingData) old new Next
+    pub sent : TakesLine link line line' old new Next → SaysNode link line line' old new Next → MakesStep link coding call (Aborting (Sending line)) (Aborting ClosingData) old new Next
     sent takes says =
         let P : Bool → Type 0 = λ b. (b ≡ true) ⊎ BeginsHere link (abort_left coding call old.state (Sending line)) old new in
         record {
@@ -95,7 +95,7 @@ module _ (link : Link) (coding : Coding) (call : Call) (is_abort : aborts call �
         }
 
     -- it waits for room
-    pub unsent : TakesLine link line line' old new Pending → SaysNode link line line' old new Pending → BreaksOff link coding call (Aborting (Sending line)) (Aborting (Sending line')) old new Pending
+    pub unsent : TakesLine link line line' old new Pending → SaysNode link line line' old new Pending → MakesStep link coding call (Aborting (Sending line)) (Aborting (Sending line')) old new Pending
     unsent takes says =
         let tree = abort_left coding call old.state (Sending line) in
         let P : Bool → Type 0 = λ b. HasBegun link b (begun_at (Saying line' as_any)) tree old new in
@@ -110,7 +110,7 @@ module _ (link : Link) (coding : Coding) (call : Call) (is_abort : aborts call �
         }
 
     -- the connection fails, or memory runs out
-    pub failed : (answer : Answer) (fault : FtpError) (stage' : Stage) → answer ≡ Fault fault → SaysNode link line line' old new (Done answer) → BreaksOff link coding call (Aborting (Sending line)) stage' old new (Done answer)
+    pub failed : (answer : Answer) (fault : FtpError) (stage' : Stage) → answer ≡ Fault fault → SaysNode link line line' old new (Done answer) → MakesStep link coding call (Aborting (Sending line)) stage' old new (Done answer)
     failed answer fault stage' is says =
         let P : Answer → Type 0 = λ a. StepAnswers call (Done a) in
         record {
@@ -123,9 +123,9 @@ module _ (link : Link) (coding : Coding) (call : Call) (is_abort : aborts call �
         }
 
   -- the data connection is closed
-  pub parted_off : (old new : SessionValue) (outcome : NetOutcome) → new ≡ record old { net = new.net } → (link.tells → MovementIs movement.Close outcome old.net new.net) → BreaksOff link coding call (Aborting ClosingData) (At Aborted) old new Next
+  pub parted_off : (old new : SessionValue) (outcome : NetOutcome) → new ≡ record old { net = new.net } → (link.tells → MovementIs movement.Close outcome old.net new.net) → MakesStep link coding call (Aborting ClosingData) (At Aborted) old new Next
   parted_off old new outcome beside tie =
-      let V : SessionValue → Type 0 = λ v. BreaksOff link coding call (Aborting ClosingData) (At Aborted) old v Next in
+      let V : SessionValue → Type 0 = λ v. MakesStep link coding call (Aborting ClosingData) (At Aborted) old v Next in
       let still = moved_still link old new.net movement.Close outcome tie (λ came. from_turn coding call Aborted old.state) in
       subst V (sym beside) (record {
         steps = still.advances;

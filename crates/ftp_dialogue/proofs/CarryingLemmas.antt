@@ -38,7 +38,7 @@ use Rattle.ftp_dialogue.specs.Resuming.{Modes, Resumes}
 use Rattle.ftp_dialogue.specs.Sound.{Transfers, left_behind}
 use Rattle.ftp_dialogue.specs.State.{SessionValue, LetsGo}
 use Rattle.std.specs.declared.io.ErrorKind.{ErrorKind}
-use Rattle.ftp_dialogue.specs.Steps.Moving.{Apart, CarriedOut, Carries, CarriesBy, CarriesOut, DoesRow, Ends, Made, Sets as SetsTo, Walks, answer_moved, moves_nothing, needs_memory, nothing_moved, state_moved}
+use Rattle.ftp_dialogue.specs.Steps.Moving.{Apart, CarriedOut, Carries, CarriesBy, CarriesOut, DoesRow, Ends, Made, Sets as SetsTo, MakesStep, answer_moved, moves_nothing, needs_memory, nothing_moved, state_moved}
 use Rattle.ftp_dialogue.specs.Steps.Polls.{MayPollAt}
 use Rattle.ftp_dialogue.specs.Steps.Stages.{MayAnswer, StageOf}
 use Rattle.ftp_dialogue.proofs.Sorts.{unheld_call, finishing_moves, finishing_no_read, local_finishes_none, local_opens_none, read_finishes_none, reply_ending}
@@ -278,8 +278,8 @@ sets_apart setting old new answer (inr lacks) = ap (λ v. v.channel) lacks.1
 
 -- The end of a transfer
 
-pub closes_walks : (link : Link) (coding : Coding) (call : Call) (old : SessionValue) (net' : Net) (outcome : NetOutcome) → finishes call ≡ true → (link.tells → MovementIs movement.Close outcome old.net net') → Walks link coding call Closing (At (Closed (told_of_close old.state.uploads outcome))) old (record old { net = net' }) Next
-closes_walks link coding call old net' outcome ends tie =
+pub closes_data : (link : Link) (coding : Coding) (call : Call) (old : SessionValue) (net' : Net) (outcome : NetOutcome) → finishes call ≡ true → (link.tells → MovementIs movement.Close outcome old.net net') → MakesStep link coding call Closing (At (Closed (told_of_close old.state.uploads outcome))) old (record old { net = net' }) Next
+closes_data link coding call old net' outcome ends tie =
     let next : NetOutcome → Tree = λ came. from_turn coding call (Closed (told_of_close old.state.uploads came)) old.state in
     let still = moved_still link old net' movement.Close outcome tie next in
     record {
@@ -289,16 +289,15 @@ closes_walks link coding call old net' outcome ends tie =
       answers = tt;
       fewer = λ is. omega arith;
       stage_of = ends;
-      waits = λ is. (let clash : Next ≡ Pending = is in cc);
     }
 
 -- the same of a session that is known by equations
-pub closed_walks : (link : Link) (coding : Coding) (call : Call) (old new : SessionValue) (outcome : NetOutcome) (told : Option ErrorKind) (stage' : Stage) → finishes call ≡ true → new ≡ record old { net = new.net } → (link.tells → MovementIs movement.Close outcome old.net new.net) → told ≡ told_of_close new.state.uploads outcome → stage' ≡ At (Closed told) → Walks link coding call Closing stage' old new Next
-closed_walks link coding call old new outcome told stage' ends beside tie told_is at =
-    let V : SessionValue → Type 0 = λ v. Walks link coding call Closing stage' old v Next in
-    let S : Stage → Type 0 = λ s. Walks link coding call Closing s old (record old { net = new.net }) Next in
+pub closed_data : (link : Link) (coding : Coding) (call : Call) (old new : SessionValue) (outcome : NetOutcome) (told : Option ErrorKind) (stage' : Stage) → finishes call ≡ true → new ≡ record old { net = new.net } → (link.tells → MovementIs movement.Close outcome old.net new.net) → told ≡ told_of_close new.state.uploads outcome → stage' ≡ At (Closed told) → MakesStep link coding call Closing stage' old new Next
+closed_data link coding call old new outcome told stage' ends beside tie told_is at =
+    let V : SessionValue → Type 0 = λ v. MakesStep link coding call Closing stage' old v Next in
+    let S : Stage → Type 0 = λ s. MakesStep link coding call Closing s old (record old { net = new.net }) Next in
     let is : stage' ≡ At (Closed (told_of_close old.state.uploads outcome)) = at ∙ ap (λ t. At (Closed t)) (told_is ∙ ap (λ v. told_of_close v.state.uploads outcome) beside) in
-    subst V (sym beside) (subst S (sym is) (closes_walks link coding call old new.net outcome ends tie))
+    subst V (sym beside) (subst S (sym is) (closes_data link coding call old new.net outcome ends tie))
 
 -- What is carried out
 

@@ -37,7 +37,7 @@ use Rattle.ftp_base.specs.Ascii.{most_bytes}
 use Rattle.ftp_dialogue.specs.Link.{Link}
 use Rattle.ftp_dialogue.specs.Promises.{Aborts, AbortsRead, FailsRead, IsFault, Untouched, failed_from, state_at}
 use Rattle.ftp_dialogue.specs.State.{SessionValue}
-use Rattle.ftp_dialogue.specs.Steps.Moving.{Advances, AsksFirst, BreaksOff, Ends, EndsFetch, FetchFailsIf, Follows, Grows, HeardFault, Hears, Moves, ReadsBy, Still}
+use Rattle.ftp_dialogue.specs.Steps.Moving.{Advances, AsksFirst, MakesStep, Ends, EndsFetch, FetchFailsIf, Follows, Grows, HeardFault, Hears, Moves, ReadsBy, Still}
 use Rattle.ftp_dialogue.specs.Steps.Stages.{AnswersKind, FetchOf, MayAnswer, MayFetch, fetch_left, nodes_of_fetch}
 use Rattle.ftp_dialogue.proofs.Moving.{leaf_ends}
 use Rattle.ftp_dialogue.proofs.NegotiationLemmas.{moved_through, unasked_through, moved_still, still_fails, unchanged_still}
@@ -83,7 +83,7 @@ sending_unheard (suc left) total (byte ∷ rest) state other = refl
 
 module _ (link : Link) (coding : Coding) (call : Call) where
   -- the next node is reached
-  pub fetch_on : (f f' : Fetched) (old new : SessionValue) → Still link (fetch_left coding old.state f) (fetch_left coding old.state f') old new → nodes_of_fetch f' < nodes_of_fetch f → FetchOf call f' → BreaksOff link coding call (Transferring f) (Transferring f') old new Next
+  pub fetch_on : (f f' : Fetched) (old new : SessionValue) → Still link (fetch_left coding old.state f) (fetch_left coding old.state f') old new → nodes_of_fetch f' < nodes_of_fetch f → FetchOf call f' → MakesStep link coding call (Transferring f) (Transferring f') old new Next
   fetch_on f f' old new still fewer of = record {
     steps = still.advances;
     quiet = λ none. let clash : true ≡ false = none in cc;
@@ -94,27 +94,27 @@ module _ (link : Link) (coding : Coding) (call : Call) where
   }
 
   -- no byte was read yet
-  pub fetch_starts : (form : Fetch) (v : SessionValue) → MayFetch call form → BreaksOff link coding call (Transferring (Starting (task.Fetch form))) (Transferring (Gathering form most_reads [])) v v Next
+  pub fetch_starts : (form : Fetch) (v : SessionValue) → MayFetch call form → MakesStep link coding call (Transferring (Starting (task.Fetch form))) (Transferring (Gathering form most_reads [])) v v Next
   fetch_starts form v may =
       let tree : Tree = fetching coding form v.state in
       fetch_on (Starting (task.Fetch form)) (Gathering form most_reads []) v v (unchanged_still link tree tree v v refl refl) (omega arith) may
 
   -- too many reads were made
-  pub fetch_full : (form : Fetch) (left : ℕ) (all : List ℕ) (v : SessionValue) → left ≡ 0 → MayFetch call form → BreaksOff link coding call (Transferring (Gathering form left all)) (Transferring (ClosingData form (too_long form))) v v Next
+  pub fetch_full : (form : Fetch) (left : ℕ) (all : List ℕ) (v : SessionValue) → left ≡ 0 → MayFetch call form → MakesStep link coding call (Transferring (Gathering form left all)) (Transferring (ClosingData form (too_long form))) v v Next
   fetch_full form left all v none may =
-      let P : ℕ → Type 0 = λ n. BreaksOff link coding call (Transferring (Gathering form n all)) (Transferring (ClosingData form (too_long form))) v v Next in
+      let P : ℕ → Type 0 = λ n. MakesStep link coding call (Transferring (Gathering form n all)) (Transferring (ClosingData form (too_long form))) v v Next in
       subst P (sym none) (fetch_on (Gathering form zero all) (ClosingData form (too_long form)) v v (unchanged_still link (gathering coding form zero all v.state) (fetch_closing_data form (too_long form) v.state) v v refl (sym (gathering_over coding form all v.state))) (omega arith) (may, too_long_kind form))
 
   -- the data connection is closed
-  pub fetch_parted : (form : Fetch) (answer : Answer) (old new : SessionValue) (outcome : NetOutcome) → new ≡ record old { net = new.net } → (link.tells → MovementIs movement.Close outcome old.net new.net) → FetchOf call (ClosingData form answer) → BreaksOff link coding call (Transferring (ClosingData form answer)) (Transferring (Ending form (closed_as (told_of_close old.state.uploads outcome) answer))) old new Next
+  pub fetch_parted : (form : Fetch) (answer : Answer) (old new : SessionValue) (outcome : NetOutcome) → new ≡ record old { net = new.net } → (link.tells → MovementIs movement.Close outcome old.net new.net) → FetchOf call (ClosingData form answer) → MakesStep link coding call (Transferring (ClosingData form answer)) (Transferring (Ending form (closed_as (told_of_close old.state.uploads outcome) answer))) old new Next
   fetch_parted form answer old new outcome beside tie of =
       let told : NetOutcome → Answer = λ came. closed_as (told_of_close old.state.uploads came) answer in
-      let V : SessionValue → Type 0 = λ v. BreaksOff link coding call (Transferring (ClosingData form answer)) (Transferring (Ending form (told outcome))) old v Next in
+      let V : SessionValue → Type 0 = λ v. MakesStep link coding call (Transferring (ClosingData form answer)) (Transferring (Ending form (told outcome))) old v Next in
       let still = moved_still link old new.net movement.Close outcome tie (λ came. fetch_ending form (told came) old.state) in
       subst V (sym beside) (fetch_on (ClosingData form answer) (Ending form (told outcome)) old (record old { net = new.net }) still (omega arith) (of.0, closed_kind form (told_of_close old.state.uploads outcome) answer of.1))
 
   -- there is no data connection
-  pub fetch_lacks : (f : Fetched) (stage' : Stage) (old : SessionValue) → state_at (fetch_left coding old.state f) OutOfMemory old.state ≡ old.state → old.channel.failed ≡ false → BreaksOff link coding call (Transferring f) stage' old (failed_from old) (Done (Fault OutOfMemory))
+  pub fetch_lacks : (f : Fetched) (stage' : Stage) (old : SessionValue) → state_at (fetch_left coding old.state f) OutOfMemory old.state ≡ old.state → old.channel.failed ≡ false → MakesStep link coding call (Transferring f) stage' old (failed_from old) (Done (Fault OutOfMemory))
   fetch_lacks f stage' old stays going =
       let tree : Tree = fetch_left coding old.state f in
       record {
@@ -137,18 +137,18 @@ module _ (link : Link) (coding : Coding) (call : Call) where
     here = Gathering form (suc n) all
 
     -- a read led here
-    read_on : (outcome : NetOutcome) (next : Fetched) → ReadsBy link old new outcome → on_data coding form all on over outcome ≡ fetch_left coding old.state next → nodes_of_fetch next < suc n + 10 → FetchOf call next → BreaksOff link coding call (Transferring here) (Transferring next) old new Next
+    read_on : (outcome : NetOutcome) (next : Fetched) → ReadsBy link old new outcome → on_data coding form all on over outcome ≡ fetch_left coding old.state next → nodes_of_fetch next < suc n + 10 → FetchOf call next → MakesStep link coding call (Transferring here) (Transferring next) old new Next
     read_on outcome next reads is fewer of =
         let B : Tree → Type 0 = λ t. Still link t (fetch_left coding old.state next) old new in
         let A : Tree → Type 0 = λ t. Still link (Move (movement.Read chunk) (on_data coding form all on over)) t old new in
         fetch_on here next old new (subst B (sym (gathering_is coding form n all old.state)) (subst A is (reads (on_data coding form all on over)))) fewer of
 
     -- there are more bytes
-    grew_to : (byte : ℕ) (bytes all' : List ℕ) (next : Fetched) → all' ≡ all ++ byte ∷ bytes → ReadsBy link old new (came.Read (byte ∷ bytes)) → Follows coding form n all' more.Grew next → BreaksOff link coding call (Transferring here) (Transferring next) old new Next
+    grew_to : (byte : ℕ) (bytes all' : List ℕ) (next : Fetched) → all' ≡ all ++ byte ∷ bytes → ReadsBy link old new (came.Read (byte ∷ bytes)) → Follows coding form n all' more.Grew next → MakesStep link coding call (Transferring here) (Transferring next) old new Next
     grew_to byte bytes all' next same reads is = go (nat_le (length all') most_bytes) refl
       where
         N : Fetched → Type 0
-        N f = BreaksOff link coding call (Transferring here) (Transferring f) old new Next
+        N f = MakesStep link coding call (Transferring here) (Transferring f) old new Next
 
         go : (b : Bool) → nat_le (length all') most_bytes ≡ b → N next
         go true fits =
@@ -161,31 +161,31 @@ module _ (link : Link) (coding : Coding) (call : Call) where
             subst N (sym to) (read_on (came.Read (byte ∷ bytes)) (ClosingData form (too_long form)) reads led (omega arith) (may, too_long_kind form))
 
     -- there are no others, or a read failed, or there was no memory
-    over_to : (outcome : NetOutcome) (answer : Answer) (next : Fetched) → ReadsBy link old new outcome → on_data coding form all on over outcome ≡ over answer → AnswersKind (kind_of_fetch form) answer → next ≡ ClosingData form answer → BreaksOff link coding call (Transferring here) (Transferring next) old new Next
+    over_to : (outcome : NetOutcome) (answer : Answer) (next : Fetched) → ReadsBy link old new outcome → on_data coding form all on over outcome ≡ over answer → AnswersKind (kind_of_fetch form) answer → next ≡ ClosingData form answer → MakesStep link coding call (Transferring here) (Transferring next) old new Next
     over_to outcome answer next reads led kind is =
-        let N : Fetched → Type 0 = λ f. BreaksOff link coding call (Transferring here) (Transferring f) old new Next in
+        let N : Fetched → Type 0 = λ f. MakesStep link coding call (Transferring here) (Transferring f) old new Next in
         subst N (sym is) (read_on outcome (ClosingData form answer) reads led (omega arith) (may, kind))
 
-    lacked_to : (next : Fetched) → ReadsBy link old new came.NoMemory → next ≡ ClosingData form (Fault OutOfMemory) → BreaksOff link coding call (Transferring here) (Transferring next) old new Next
+    lacked_to : (next : Fetched) → ReadsBy link old new came.NoMemory → next ≡ ClosingData form (Fault OutOfMemory) → MakesStep link coding call (Transferring here) (Transferring next) old new Next
     lacked_to next reads is = over_to came.NoMemory (Fault OutOfMemory) next reads refl (memory_kind form) is
       where
         memory_kind : (f : Fetch) → AnswersKind (kind_of_fetch f) (Fault OutOfMemory)
         memory_kind f = tt
 
-    ended_to : (all' : List ℕ) (next : Fetched) → all' ≡ all → ReadsBy link old new (came.Read []) → ReadsBy link old new came.NoMemory → Follows coding form n all' more.Ended next → BreaksOff link coding call (Transferring here) (Transferring next) old new Next
+    ended_to : (all' : List ℕ) (next : Fetched) → all' ≡ all → ReadsBy link old new (came.Read []) → ReadsBy link old new came.NoMemory → Follows coding form n all' more.Ended next → MakesStep link coding call (Transferring here) (Transferring next) old new Next
     ended_to all' next same reads lacks (inl is) =
         over_to (came.Read []) (fetched coding form all) next reads refl (fetched_kind coding form all) (is ∙ ap (λ l. ClosingData form (fetched coding form l)) same)
     ended_to all' next same reads lacks (inr is) = lacked_to next lacks is
 
-    pub fetch_read : (all' : List ℕ) (m : More) (next : Fetched) → Grows link all all' old new (poll.Ready m) → Follows coding form n all' m next → BreaksOff link coding call (Transferring here) (Transferring next) old new Next
+    pub fetch_read : (all' : List ℕ) (m : More) (next : Fetched) → Grows link all all' old new (poll.Ready m) → Follows coding form n all' m next → MakesStep link coding call (Transferring here) (Transferring next) old new Next
     fetch_read all' more.Grew next grows is = grew_to grows.0 grows.1 all' next grows.2 grows.3 is
     fetch_read all' more.Ended next grows is = ended_to all' next grows.0 grows.1 grows.2 is
     fetch_read all' (more.Failed kind) next reads is = over_to (came.Failed kind) (unfetched form kind) next reads refl (unfetched_kind form kind) is
     fetch_read all' more.NoMemory next reads is = lacked_to next reads is
 
-    pub fetch_waits : (all' : List ℕ) → Grows link all all' old new poll.Pending → BreaksOff link coding call (Transferring here) (Transferring (Gathering form (suc n) all')) old new Pending
+    pub fetch_waits : (all' : List ℕ) → Grows link all all' old new poll.Pending → MakesStep link coding call (Transferring here) (Transferring (Gathering form (suc n) all')) old new Pending
     fetch_waits all' (same, still, waits) =
-        let P : List ℕ → Type 0 = λ l. BreaksOff link coding call (Transferring here) (Transferring (Gathering form (suc n) l)) old new Pending in
+        let P : List ℕ → Type 0 = λ l. MakesStep link coding call (Transferring here) (Transferring (Gathering form (suc n) l)) old new Pending in
         let A : Tree → Type 0 = AsksFirst in
         subst P (sym same) (record {
           steps = ((still (gathering coding form (suc n) all old.state)).advances, inr (inr (record { asks = subst A (sym (gathering_is coding form n all old.state)) tt; may = waits })));
@@ -197,14 +197,14 @@ module _ (link : Link) (coding : Coding) (call : Call) where
         })
 
   -- the same after any number of reads
-  pub fetch_read_at : (form : Fetch) (left : ℕ) (all : List ℕ) (old new : SessionValue) (all' : List ℕ) (m : More) (next : Fetched) → MayFetch call form → (left ≡ 0 → ⊥) → Grows link all all' old new (poll.Ready m) → Follows coding form (left - 1) all' m next → BreaksOff link coding call (Transferring (Gathering form left all)) (Transferring next) old new Next
+  pub fetch_read_at : (form : Fetch) (left : ℕ) (all : List ℕ) (old new : SessionValue) (all' : List ℕ) (m : More) (next : Fetched) → MayFetch call form → (left ≡ 0 → ⊥) → Grows link all all' old new (poll.Ready m) → Follows coding form (left - 1) all' m next → MakesStep link coding call (Transferring (Gathering form left all)) (Transferring next) old new Next
   fetch_read_at form zero all old new all' m next may some grows is = absurd (some refl)
   fetch_read_at form (suc n) all old new all' m next may some grows is =
       let e : suc n - 1 ≡ n = omega arith in
       let F : ℕ → Type 0 = λ k. Follows coding form k all' m next in
       fetch_read form n all may old new all' m next grows (subst F e is)
 
-  pub fetch_waits_at : (form : Fetch) (left : ℕ) (all : List ℕ) (old new : SessionValue) (all' : List ℕ) → MayFetch call form → (left ≡ 0 → ⊥) → Grows link all all' old new poll.Pending → BreaksOff link coding call (Transferring (Gathering form left all)) (Transferring (Gathering form left all')) old new Pending
+  pub fetch_waits_at : (form : Fetch) (left : ℕ) (all : List ℕ) (old new : SessionValue) (all' : List ℕ) → MayFetch call form → (left ≡ 0 → ⊥) → Grows link all all' old new poll.Pending → MakesStep link coding call (Transferring (Gathering form left all)) (Transferring (Gathering form left all')) old new Pending
   fetch_waits_at form zero all old new all' may some grows = absurd (some refl)
   fetch_waits_at form (suc n) all old new all' may some grows = fetch_waits form n all may old new all' grows
 
@@ -217,7 +217,7 @@ module _ (link : Link) (coding : Coding) (call : Call) where
       (found.0, inl found.1, subst K (sym found.2) kind)
 
   -- it was heard
-  pub fetch_heard : (form : Fetch) (answer : Answer) (stage' : Stage) (old mid new : SessionValue) → FetchOf call (Ending form answer) → Advances link (fetch_ending form answer old.state) (Leaf answer (with_fetched old.state)) old mid → new ≡ record mid { state = with_fetched mid.state } → BreaksOff link coding call (Transferring (Ending form answer)) stage' old new (Done answer)
+  pub fetch_heard : (form : Fetch) (answer : Answer) (stage' : Stage) (old mid new : SessionValue) → FetchOf call (Ending form answer) → Advances link (fetch_ending form answer old.state) (Leaf answer (with_fetched old.state)) old mid → new ≡ record mid { state = with_fetched mid.state } → MakesStep link coding call (Transferring (Ending form answer)) stage' old new (Done answer)
   fetch_heard form answer stage' old mid new of heard same =
       let tree : Tree = fetch_ending form answer old.state in
       let T : Tree → Type 0 = λ t. Moves link tree t old mid in
@@ -232,7 +232,7 @@ module _ (link : Link) (coding : Coding) (call : Call) where
       }
 
   -- it is waited for
-  pub fetch_awaits : (form : Fetch) (answer : Answer) (old new : SessionValue) → FetchOf call (Ending form answer) → Hears link (expecting (ClosingDataConnection ∷ RequestedFileActionOk ∷ [])) (fetch_concluded form answer old.state) old new poll.Pending → BreaksOff link coding call (Transferring (Ending form answer)) (Transferring (Ending form answer)) old new Pending
+  pub fetch_awaits : (form : Fetch) (answer : Answer) (old new : SessionValue) → FetchOf call (Ending form answer) → Hears link (expecting (ClosingDataConnection ∷ RequestedFileActionOk ∷ [])) (fetch_concluded form answer old.state) old new poll.Pending → MakesStep link coding call (Transferring (Ending form answer)) (Transferring (Ending form answer)) old new Pending
   fetch_awaits form answer old new of heard = record {
     steps = (heard.0, heard.1);
     quiet = tt;
@@ -338,7 +338,7 @@ module _ (link : Link) (coding : Coding) (call : Call) (form : Fetch) (answer : 
   told_answers true left = (let M : Answer → Type 0 = λ a. MayAnswer call a in subst M (sym left.0) (First, inr tt, tt))
   told_answers false left = (let M : Answer → Type 0 = λ a. MayAnswer call a in subst M (sym left.0) (First, inr tt, tt))
 
-  pub fetch_fails : (stage' : Stage) → Hears link (expecting (ClosingDataConnection ∷ RequestedFileActionOk ∷ [])) next old mid (poll.Ready (Err fault)) → EndsFetch form answer fault mid new told → BreaksOff link coding call (Transferring (Ending form answer)) stage' old new (Done told)
+  pub fetch_fails : (stage' : Stage) → Hears link (expecting (ClosingDataConnection ∷ RequestedFileActionOk ∷ [])) next old mid (poll.Ready (Err fault)) → EndsFetch form answer fault mid new told → MakesStep link coding call (Transferring (Ending form answer)) stage' old new (Done told)
   fetch_fails stage' heard ends = record {
     steps = fault_so heard (ends.1, ends.0);
     quiet = tt;

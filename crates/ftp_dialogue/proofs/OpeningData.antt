@@ -138,7 +138,7 @@ asking_answers call turn ending (Accepting peer left opened) of row leads answer
 asking_answers call turn ending (Securing (GivesAnswer answer)) of row leads answers = ((turn, inl of, row_answers (row_of call turn) ending answer row answers.0), answers.1)
 asking_answers call turn ending (Securing (PerformsAll task)) of row leads answers = may_perform call turn ending task of row leads answers
 
-many_nodes : (turn : Turn) → most_reads + strangers + 19 < nodes_from turn
+pub many_nodes : (turn : Turn) → most_reads + strangers + 19 < nodes_from turn
 many_nodes First = omega arith
 many_nodes Second = omega arith
 many_nodes (Passive offset after) = omega arith

@@ -41,7 +41,7 @@ use Rattle.ftp_dialogue.specs.Link.{Link}
 use Rattle.ftp_dialogue.specs.Promises.{Aborts, failed_from, state_at}
 use Rattle.ftp_dialogue.specs.Sound.{cannot_open}
 use Rattle.ftp_dialogue.specs.State.{SessionValue}
-use Rattle.ftp_dialogue.specs.Steps.Moving.{AsksFirst, Ends, LooksUp, Moves, Speaks, Still, Walks, dropped}
+use Rattle.ftp_dialogue.specs.Steps.Moving.{AsksFirst, Ends, LooksUp, Moves, Speaks, Still, MakesStep, dropped}
 use Rattle.ftp_dialogue.specs.Steps.Questions.{AcceptsNext, Arrives, AsksNode, Continues, Fits, Reaches, admitted_as, after_found, asked_by, builds_as, connects_as, first_unless, listens_as, looked_as, met_as, question_at, stands_as, to_turn, turned_as}
 use Rattle.ftp_dialogue.specs.Steps.Stages.{OpeningOf, StageOf, StepAnswers, WayOf, begun_at, first_by, has_asked, nodes_from, nodes_left, nodes_of, opened_by, remaining, way_of}
 use Rattle.ftp_dialogue.proofs.Moving.{leaf_ends}
@@ -123,13 +123,13 @@ unheard coding call state other (Asking turn (Securing opened)) is = refl
 
 -- It is asked
 
-pub looked_here : (link : Link) (old new : SessionValue) (result : Result SocketAddr ErrorKind) → LooksUp link Here old new result → AsksNode link question.OwnAddress old new (looked_as result)
-looked_here link old new (Ok address) looks = (tt, λ next. looks (λ a. next (found.Address a)))
-looked_here link old new (Err kind) looks = λ begun next. looks begun (λ a. next (found.Address a))
+pub looked_local : (link : Link) (old new : SessionValue) (result : Result SocketAddr ErrorKind) → LooksUp link Here old new result → AsksNode link question.OwnAddress old new (looked_as result)
+looked_local link old new (Ok address) looks = (tt, λ next. looks (λ a. next (found.Address a)))
+looked_local link old new (Err kind) looks = λ begun next. looks begun (λ a. next (found.Address a))
 
-pub looked_there : (link : Link) (old new : SessionValue) (result : Result SocketAddr ErrorKind) → LooksUp link There old new result → AsksNode link question.PeerAddress old new (looked_as result)
-looked_there link old new (Ok address) looks = (tt, λ next. looks (λ a. next (found.Address a)))
-looked_there link old new (Err kind) looks = λ begun next. looks begun (λ a. next (found.Address a))
+pub looked_peer : (link : Link) (old new : SessionValue) (result : Result SocketAddr ErrorKind) → LooksUp link There old new result → AsksNode link question.PeerAddress old new (looked_as result)
+looked_peer link old new (Ok address) looks = (tt, λ next. looks (λ a. next (found.Address a)))
+looked_peer link old new (Err kind) looks = λ begun next. looks begun (λ a. next (found.Address a))
 
 -- What a step makes of it
 
@@ -138,32 +138,30 @@ module _ (link : Link) (coding : Coding) (call : Call) (way : Way) (opens : nego
   place state = way_of coding call state way
 
   -- the next node is reached
-  walks_on : (stage' : Stage) (old new : SessionValue) → Still link (place old.state) (remaining coding call old.state stage') old new → begun_at stage' ≡ has_asked way → (Speaks (place old.state) → Speaks (remaining coding call old.state stage')) → nodes_left stage' < nodes_of way → StageOf call stage' → Walks link coding call (OpeningData way) stage' old new Next
-  walks_on stage' old new still same speaks fewer stage_of = record {
+  step_on : (stage' : Stage) (old new : SessionValue) → Still link (place old.state) (remaining coding call old.state stage') old new → begun_at stage' ≡ has_asked way → (Speaks (place old.state) → Speaks (remaining coding call old.state stage')) → nodes_left stage' < nodes_of way → StageOf call stage' → MakesStep link coding call (OpeningData way) stage' old new Next
+  step_on stage' old new still same speaks fewer stage_of = record {
     steps = still.advances;
     quiet = λ none. record { still = still; begun = sym same ∙ none; speaks = speaks; read = λ read. let clash : true ≡ false = sym read ∙ read_opens_none call opens in cc };
     begun = (λ has. inl (sym same ∙ has), λ none. (sym same ∙ none, still_touched link _ _ old new still));
     answers = tt;
     fewer = λ is. fewer;
     stage_of = stage_of;
-    waits = λ is. let clash : Next ≡ Pending = is in cc;
   }
 
   -- the call has its answer
-  walks_end : (stage' : Stage) (answer : Answer) (old new : SessionValue) → Ends link (place old.state) answer old new ⊎ Aborts link (has_asked way) (place old.state) answer old new → StepAnswers call (Done answer) → Walks link coding call (OpeningData way) stage' old new (Done answer)
-  walks_end stage' answer old new made answers = record {
+  step_ends : (stage' : Stage) (answer : Answer) (old new : SessionValue) → Ends link (place old.state) answer old new ⊎ Aborts link (has_asked way) (place old.state) answer old new → StepAnswers call (Done answer) → MakesStep link coding call (OpeningData way) stage' old new (Done answer)
+  step_ends stage' answer old new made answers = record {
     steps = made;
     quiet = tt;
     begun = tt;
     answers = answers;
     fewer = λ is. let clash : Done answer ≡ Next = is in cc;
     stage_of = tt;
-    waits = λ is. let clash : Done answer ≡ Pending = is in cc;
   }
 
   -- it waits
-  pub waits_walks : (old new : SessionValue) → WayOf call way → AsksNode link (question_at old.state way) old new asked.Waits → Walks link coding call (OpeningData way) (OpeningData way) old new Pending
-  waits_walks old new of waits =
+  pub waits_there : (old new : SessionValue) → WayOf call way → AsksNode link (question_at old.state way) old new asked.Waits → MakesStep link coding call (OpeningData way) (OpeningData way) old new Pending
+  waits_there old new of waits =
       let tree : Tree = place old.state in
       let T : Tree → Type 0 = λ t. Still link t t old new × AsksFirst t in
       let here : T tree = subst T (sym (begins coding call old.state way)) (waits.0 (λ came. after_found came tree)) in
@@ -174,19 +172,18 @@ module _ (link : Link) (coding : Coding) (call : Call) (way : Way) (opens : nego
         answers = tt;
         fewer = λ is. let clash : Pending ≡ Next = is in cc;
         stage_of = (opens, of);
-        waits = λ is. waits.1;
       }
 
   -- the control connection failed
-  pub fails_walks : (stage' : Stage) (kind : ErrorKind) (old new : SessionValue) → AsksNode link (question_at old.state way) old new (asked.Failed kind) → Walks link coding call (OpeningData way) stage' old new (Done (Fault (ConnectionError (Io kind))))
-  fails_walks stage' kind old new fails =
+  pub fails_there : (stage' : Stage) (kind : ErrorKind) (old new : SessionValue) → AsksNode link (question_at old.state way) old new (asked.Failed kind) → MakesStep link coding call (OpeningData way) stage' old new (Done (Fault (ConnectionError (Io kind))))
+  fails_there stage' kind old new fails =
       let tree : Tree = place old.state in
       let T : Tree → Type 0 = λ t. Aborts link (has_asked way) t (Fault (ConnectionError (Io kind))) old new in
-      walks_end stage' (Fault (ConnectionError (Io kind))) old new (inr (subst T (sym (begins coding call old.state way)) (fails (has_asked way) (λ came. after_found came tree)))) (First, inr tt, tt)
+      step_ends stage' (Fault (ConnectionError (Io kind))) old new (inr (subst T (sym (begins coding call old.state way)) (fails (has_asked way) (λ came. after_found came tree)))) (First, inr tt, tt)
 
   -- memory ran out
-  pub lacks_walks : (stage' : Stage) (old mid : SessionValue) → old.channel.failed ≡ false → AsksNode link (question_at old.state way) old mid asked.NoMemory → Walks link coding call (OpeningData way) stage' old (cond (has_asked way) (failed_from mid) mid) (Done (Fault OutOfMemory))
-  lacks_walks stage' old mid going lacks = go (has_asked way) refl
+  pub lacks_memory_there : (stage' : Stage) (old mid : SessionValue) → old.channel.failed ≡ false → AsksNode link (question_at old.state way) old mid asked.NoMemory → MakesStep link coding call (OpeningData way) stage' old (cond (has_asked way) (failed_from mid) mid) (Done (Fault OutOfMemory))
+  lacks_memory_there stage' old mid going lacks = go (has_asked way) refl
     where
       tree : Tree
       tree = place old.state
@@ -194,17 +191,17 @@ module _ (link : Link) (coding : Coding) (call : Call) (way : Way) (opens : nego
       here : Still link tree tree old mid
       here = (let T : Tree → Type 0 = λ t. Still link t t old mid in subst T (sym (begins coding call old.state way)) (lacks (λ came. after_found came tree)))
 
-      go : (b : Bool) → has_asked way ≡ b → Walks link coding call (OpeningData way) stage' old (cond b (failed_from mid) mid) (Done (Fault OutOfMemory))
+      go : (b : Bool) → has_asked way ≡ b → MakesStep link coding call (OpeningData way) stage' old (cond b (failed_from mid) mid) (Done (Fault OutOfMemory))
       go true is =
           let A : Bool → Type 0 = λ b. Aborts link b tree (Fault OutOfMemory) old (failed_from mid) in
-          walks_end stage' (Fault OutOfMemory) old (failed_from mid) (inr (subst A (sym is) (still_fails link tree old mid (unheard coding call old.state mid.state way is) going here))) (First, inr tt, tt)
+          step_ends stage' (Fault OutOfMemory) old (failed_from mid) (inr (subst A (sym is) (still_fails link tree old mid (unheard coding call old.state mid.state way is) going here))) (First, inr tt, tt)
       go false is =
           let A : Bool → Type 0 = λ b. Aborts link b tree (Fault OutOfMemory) old mid in
-          walks_end stage' (Fault OutOfMemory) old mid (inr (subst A (sym is) (still_lacks link tree old mid going here))) (First, inr tt, tt)
+          step_ends stage' (Fault OutOfMemory) old mid (inr (subst A (sym is) (still_lacks link tree old mid going here))) (First, inr tt, tt)
 
   -- something was found, and the machine gets to what follows
-  pub found_walks : (came : Found) (follows : Reached) (stage' : Stage) (old mid new : SessionValue) (result : Step) → AsksNode link (question_at old.state way) old mid (asked.Found came) → Continues coding call way came mid.state follows → Arrives follows stage' mid new result → Walks link coding call (OpeningData way) stage' old new result
-  found_walks came follows stage' old mid new result finds continues arrives = go follows (subst C here.advances.moves.state continues) arrives
+  pub found_there : (came : Found) (follows : Reached) (stage' : Stage) (old mid new : SessionValue) (result : Step) → AsksNode link (question_at old.state way) old mid (asked.Found came) → Continues coding call way came mid.state follows → Arrives follows stage' mid new result → MakesStep link coding call (OpeningData way) stage' old new result
+  found_there came follows stage' old mid new result finds continues arrives = go follows (subst C here.advances.moves.state continues) arrives
     where
       tree : Tree
       tree = place old.state
@@ -218,13 +215,13 @@ module _ (link : Link) (coding : Coding) (call : Call) (way : Way) (opens : nego
       speaks : Speaks tree → Speaks (after_found came tree)
       speaks s = (let S : Tree → Type 0 = Speaks in speaks_on (question_at old.state way) came old.state.settings.active_deadline (λ found. after_found found tree) finds.0 (subst S (begins coding call old.state way) s))
 
-      on : (stage : Stage) (last : SessionValue) → Reaches coding call way came old.state stage → Still link tree (remaining coding call old.state stage) old last → Walks link coding call (OpeningData way) stage old last Next
+      on : (stage : Stage) (last : SessionValue) → Reaches coding call way came old.state stage → Still link tree (remaining coding call old.state stage) old last → MakesStep link coding call (OpeningData way) stage old last Next
       on stage last reaches still =
           let S : Tree → Type 0 = λ t. Speaks tree → Speaks t in
-          walks_on stage old last still reaches.begun (subst S reaches.same speaks) reaches.fewer reaches.stage_of
+          step_on stage old last still reaches.begun (subst S reaches.same speaks) reaches.fewer reaches.stage_of
 
       W : Stage → SessionValue → Step → Type 0
-      W stage last step = Walks link coding call (OpeningData way) stage old last step
+      W stage last step = MakesStep link coding call (OpeningData way) stage old last step
 
       go : (follows : Reached) → Continues coding call way came old.state follows → Arrives follows stage' mid new result → W stage' new result
       go (reached.Node stage) reaches (is, at, same) =
@@ -240,12 +237,12 @@ module _ (link : Link) (coding : Coding) (call : Call) (way : Way) (opens : nego
           let M : Tree → Type 0 = λ t. Moves link tree t old mid in
           let L : State → Tree = λ s. Leaf answer (with_transfer s) in
           let moves = subst M (leaf ∙ ap L (sym here.advances.moves.state)) here.advances.moves in
-          rw (is, same) (walks_end stage' answer old (record mid { state = with_transfer mid.state }) (inl (leaf_ends link tree answer old mid (record mid { state = with_transfer mid.state }) moves (λ f. inl (sym here.advances.failed ∙ f)) refl refl)) answers)
+          rw (is, same) (step_ends stage' answer old (record mid { state = with_transfer mid.state }) (inl (leaf_ends link tree answer old mid (record mid { state = with_transfer mid.state }) moves (λ f. inl (sym here.advances.failed ∙ f)) refl refl)) answers)
       go (reached.Answers answer) (leaf, answers) (is, same) =
           let M : Tree → Type 0 = λ t. Moves link tree t old mid in
           let L : State → Tree = λ s. Leaf answer s in
           let moves = subst M (leaf ∙ ap L (sym here.advances.moves.state)) here.advances.moves in
-          rw (is, same) (walks_end stage' answer old mid (inl (leaf_ends link tree answer old mid mid moves (λ f. inl (sym here.advances.failed ∙ f)) refl refl)) answers)
+          rw (is, same) (step_ends stage' answer old mid (inl (leaf_ends link tree answer old mid mid moves (λ f. inl (sym here.advances.failed ∙ f)) refl refl)) answers)
 
 -- What follows what was found
 

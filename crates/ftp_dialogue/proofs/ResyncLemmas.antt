@@ -34,7 +34,7 @@ use Rattle.ftp_dialogue.specs.Link.{Link}
 use Rattle.ftp_dialogue.specs.Promises.{Aborts, FailsRead, Untouched, failed_from}
 use Rattle.ftp_dialogue.specs.Sound.{some_live}
 use Rattle.ftp_dialogue.specs.State.{SessionValue}
-use Rattle.ftp_dialogue.specs.Steps.Moving.{Advances, BeginsHere, BreaksOff, Ends, HasBegun, Hears, Moves, SaysNode, TakesLine, WaitsFor, after_fault}
+use Rattle.ftp_dialogue.specs.Steps.Moving.{Advances, BeginsHere, MakesStep, Ends, HasBegun, Hears, Moves, SaysNode, TakesLine, WaitsFor, after_fault}
 use Rattle.ftp_dialogue.specs.Steps.Stages.{FollowsSought, StepAnswers, TurnOf, begun_at, has_sought, is_later, nodes_from, resync_left}
 use Rattle.ftp_dialogue.proofs.Moving.{lacks_memory_at, lacks_memory_first, leaf_ends, refused_line, stays_put, untouched}
 use Rattle.ftp_dialogue.proofs.NegotiationLemmas.{unchanged_still}
@@ -93,7 +93,7 @@ fault_is (suc left) state (UnexpectedResponse reply) last = go (last reply refl)
 
 module _ (link : Link) (coding : Coding) (call : Call) (turn : Turn) (of : (row_of call turn ≡ Resyncs) × TurnOf call turn) where
   -- beside a live transfer
-  pub beside_live : (stage' : Stage) (v : SessionValue) → some_live v.state.counts.owed ≡ true → BreaksOff link coding call (Resyncing turn Wording) stage' v v (Done (Fault DataConnectionAlreadyOpen))
+  pub beside_live : (stage' : Stage) (v : SessionValue) → some_live v.state.counts.owed ≡ true → MakesStep link coding call (Resyncing turn Wording) stage' v v (Done (Fault DataConnectionAlreadyOpen))
   beside_live stage' v live =
       let leaf : Tree = Leaf (Fault DataConnectionAlreadyOpen) v.state in
       let P : Bool → Type 0 = λ b. Ends link (cond b leaf (Say (wire coding.encode (text_of Noop)) (seeking most_passed_over v.state))) (Fault DataConnectionAlreadyOpen) v v in
@@ -111,7 +111,7 @@ module _ (link : Link) (coding : Coding) (call : Call) (turn : Turn) (of : (row_
   spoken v none = ap (λ b. cond b (Leaf (Fault DataConnectionAlreadyOpen) v.state) (Say (wire coding.encode (text_of Noop)) (seeking most_passed_over v.state))) none
 
   -- its line is made
-  pub noop_worded : (line : List ℕ) (v : SessionValue) → some_live v.state.counts.owed ≡ false → wire coding.encode (text_of Noop) ≡ Ok line → BreaksOff link coding call (Resyncing turn Wording) (Resyncing turn (Sending (Some line))) v v Next
+  pub noop_worded : (line : List ℕ) (v : SessionValue) → some_live v.state.counts.owed ≡ false → wire coding.encode (text_of Noop) ≡ Ok line → MakesStep link coding call (Resyncing turn Wording) (Resyncing turn (Sending (Some line))) v v Next
   noop_worded line v none is =
       let tree : Tree = resyncing coding v.state in
       let next : Tree = Say (Ok line) (seeking most_passed_over v.state) in
@@ -143,7 +143,7 @@ module _ (link : Link) (coding : Coding) (call : Call) (turn : Turn) (of : (row_
   unworded_ends DataConnectionAlreadyOpen v is = absurd is
   unworded_ends SessionFailed v is = absurd is
 
-  pub noop_unworded : (fault : FtpError) (stage' : Stage) (v new : SessionValue) → some_live v.state.counts.owed ≡ false → IsRefusalOf (wire coding.encode (text_of Noop)) fault → new ≡ after_fault (is_later turn) fault v → BreaksOff link coding call (Resyncing turn Wording) stage' v new (Done (Fault fault))
+  pub noop_unworded : (fault : FtpError) (stage' : Stage) (v new : SessionValue) → some_live v.state.counts.owed ≡ false → IsRefusalOf (wire coding.encode (text_of Noop)) fault → new ≡ after_fault (is_later turn) fault v → MakesStep link coding call (Resyncing turn Wording) stage' v new (Done (Fault fault))
   noop_unworded fault stage' v new none is leaves =
       let P : Tree → SessionValue → Type 0 = λ t w. Ends link t (Fault fault) v w ⊎ Aborts link (is_later turn) t (Fault fault) v w in
       let T : Tree → Type 0 = λ t. P t (after_fault (is_later turn) fault v) in
@@ -169,7 +169,7 @@ module _ (link : Link) (coding : Coding) (call : Call) (turn : Turn) (of : (row_
 
   module _ (line line' : Option (List ℕ)) (old new : SessionValue) where
     -- it has gone out
-    pub noop_sent : TakesLine link line line' old new Next → SaysNode link line line' old new Next → BreaksOff link coding call (Resyncing turn (Sending line)) (Resyncing turn (Seeking most_passed_over)) old new Next
+    pub noop_sent : TakesLine link line line' old new Next → SaysNode link line line' old new Next → MakesStep link coding call (Resyncing turn (Sending line)) (Resyncing turn (Seeking most_passed_over)) old new Next
     noop_sent takes says =
         let P : Bool → Type 0 = λ b. (b ≡ true) ⊎ BeginsHere link (resync_left coding old.state (Sending line)) old new in
         record {
@@ -182,7 +182,7 @@ module _ (link : Link) (coding : Coding) (call : Call) (turn : Turn) (of : (row_
         }
 
     -- it waits for room
-    pub noop_unsent : TakesLine link line line' old new Pending → SaysNode link line line' old new Pending → BreaksOff link coding call (Resyncing turn (Sending line)) (Resyncing turn (Sending line')) old new Pending
+    pub noop_unsent : TakesLine link line line' old new Pending → SaysNode link line line' old new Pending → MakesStep link coding call (Resyncing turn (Sending line)) (Resyncing turn (Sending line')) old new Pending
     noop_unsent takes says =
         let tree = resync_left coding old.state (Sending line) in
         let P : Bool → Type 0 = λ b. HasBegun link b (begun_at (Saying line' as_any)) tree old new in
@@ -197,7 +197,7 @@ module _ (link : Link) (coding : Coding) (call : Call) (turn : Turn) (of : (row_
         }
 
     -- the connection fails, or memory runs out
-    pub noop_failed : (answer : Answer) (fault : FtpError) (stage' : Stage) → answer ≡ Fault fault → SaysNode link line line' old new (Done answer) → BreaksOff link coding call (Resyncing turn (Sending line)) stage' old new (Done answer)
+    pub noop_failed : (answer : Answer) (fault : FtpError) (stage' : Stage) → answer ≡ Fault fault → SaysNode link line line' old new (Done answer) → MakesStep link coding call (Resyncing turn (Sending line)) stage' old new (Done answer)
     noop_failed answer fault stage' is says =
         let P : Answer → Type 0 = λ a. StepAnswers call (Done a) in
         record {
@@ -221,7 +221,7 @@ module _ (link : Link) (coding : Coding) (call : Call) (turn : Turn) (of : (row_
     SoughtBy mid heard = Hears link (expecting (CommandOk ∷ [])) next old mid heard
 
     -- it is that to NOOP
-    pub noop_heard : (stage' : Stage) (reply : Response) (new : SessionValue) → SoughtBy new (poll.Ready (Ok reply)) → BreaksOff link coding call (Resyncing turn (Seeking left)) stage' old new (Done Unit)
+    pub noop_heard : (stage' : Stage) (reply : Response) (new : SessionValue) → SoughtBy new (poll.Ready (Ok reply)) → MakesStep link coding call (Resyncing turn (Seeking left)) stage' old new (Done Unit)
     noop_heard stage' reply new heard =
         let T : Tree → Type 0 = λ t. Moves link tree t old new in
         let E : Tree → Type 0 = λ t. Ends link t Unit old new in
@@ -235,7 +235,7 @@ module _ (link : Link) (coding : Coding) (call : Call) (turn : Turn) (of : (row_
         }
 
     -- it is waited for
-    pub noop_awaited : (new : SessionValue) → SoughtBy new poll.Pending → BreaksOff link coding call (Resyncing turn (Seeking left)) (Resyncing turn (Seeking left)) old new Pending
+    pub noop_awaited : (new : SessionValue) → SoughtBy new poll.Pending → MakesStep link coding call (Resyncing turn (Seeking left)) (Resyncing turn (Seeking left)) old new Pending
     noop_awaited new heard =
         let P : Tree → Type 0 = λ t. Advances link t t old new × WaitsFor link t new in
         record {
@@ -264,7 +264,7 @@ module _ (link : Link) (coding : Coding) (call : Call) (turn : Turn) (of : (row_
         go (inl fails) = let clash : UnexpectedResponse reply ≡ ConnectionError (Io fails.kind) = sym is ∙ fails.is in cc
         go (inr lacks) = let clash : UnexpectedResponse reply ≡ OutOfMemory = sym is ∙ lacks.0 in cc
 
-    other_heard : (rest : ℕ) (reply : Response) (fault : FtpError) (mid new : SessionValue) → left ≡ suc rest → fault ≡ UnexpectedResponse reply → ends_search reply ≡ false → SoughtBy mid (poll.Ready (Err fault)) → new ≡ after_fault true fault mid → BreaksOff link coding call (Resyncing turn (Seeking left)) (Resyncing turn (Seeking rest)) old new Next
+    other_heard : (rest : ℕ) (reply : Response) (fault : FtpError) (mid new : SessionValue) → left ≡ suc rest → fault ≡ UnexpectedResponse reply → ends_search reply ≡ false → SoughtBy mid (poll.Ready (Err fault)) → new ≡ after_fault true fault mid → MakesStep link coding call (Resyncing turn (Seeking left)) (Resyncing turn (Seeking rest)) old new Next
     other_heard rest reply fault mid new more is open_still heard leaves =
         let same : new ≡ mid = leaves ∙ ap (λ f. after_fault true f mid) is in
         let V : SessionValue → Type 0 = λ v. Advances link tree (seeking rest old.state) old v in
@@ -297,7 +297,7 @@ module _ (link : Link) (coding : Coding) (call : Call) (turn : Turn) (of : (row_
             let same : new ≡ failed_from mid = leaves ∙ ap (λ f. after_fault true f mid) lacks.0 in
             inr (record { place = tree; at = aborts.at; leads = aborts.leads; state = aborts.state; going = aborts.going ∙ sym going; fault = OutOfMemory; is = ap Fault lacks.0; cause = inr (record { is = refl; leaves = inr (same ∙ ap failed_from lacks.1 ∙ ap (λ s. failed_from (record aborts.at { state = s })) aborts.state, inl refl) }) })
 
-    pub fault_heard : (fault : FtpError) (stage' : Stage) (mid new : SessionValue) → old.channel.failed ≡ false → ((reply : Response) → fault ≡ UnexpectedResponse reply → (left ≡ 0) ⊎ (ends_search reply ≡ true)) → SoughtBy mid (poll.Ready (Err fault)) → new ≡ after_fault true fault mid → BreaksOff link coding call (Resyncing turn (Seeking left)) stage' old new (Done (Fault fault))
+    pub fault_heard : (fault : FtpError) (stage' : Stage) (mid new : SessionValue) → old.channel.failed ≡ false → ((reply : Response) → fault ≡ UnexpectedResponse reply → (left ≡ 0) ⊎ (ends_search reply ≡ true)) → SoughtBy mid (poll.Ready (Err fault)) → new ≡ after_fault true fault mid → MakesStep link coding call (Resyncing turn (Seeking left)) stage' old new (Done (Fault fault))
     fault_heard fault stage' mid new going last heard leaves =
         let P : Tree → Type 0 = λ t. Ends link t (Fault fault) old new ⊎ Aborts link true t (Fault fault) old new in
         record {
@@ -310,11 +310,11 @@ module _ (link : Link) (coding : Coding) (call : Call) (turn : Turn) (of : (row_
         }
 
     -- what follows a reply of another status, or an error
-    pub sought_on : (fault : FtpError) (stage' : Stage) (step : Step) (mid new : SessionValue) → old.channel.failed ≡ false → FollowsSought turn left fault stage' step → SoughtBy mid (poll.Ready (Err fault)) → new ≡ after_fault true fault mid → BreaksOff link coding call (Resyncing turn (Seeking left)) stage' old new step
+    pub sought_on : (fault : FtpError) (stage' : Stage) (step : Step) (mid new : SessionValue) → old.channel.failed ≡ false → FollowsSought turn left fault stage' step → SoughtBy mid (poll.Ready (Err fault)) → new ≡ after_fault true fault mid → MakesStep link coding call (Resyncing turn (Seeking left)) stage' old new step
     sought_on fault stage' Next mid new going (rest, reply, more, is, open_still, at) heard leaves =
-        let S : Stage → Type 0 = λ s. BreaksOff link coding call (Resyncing turn (Seeking left)) s old new Next in
+        let S : Stage → Type 0 = λ s. MakesStep link coding call (Resyncing turn (Seeking left)) s old new Next in
         subst S (sym at) (other_heard rest reply fault mid new more is open_still heard leaves)
     sought_on fault stage' Pending mid new going follows heard leaves = absurd follows
     sought_on fault stage' (Done last) mid new going (told, ends) heard leaves =
-        let A : Answer → Type 0 = λ a. BreaksOff link coding call (Resyncing turn (Seeking left)) stage' old new (Done a) in
+        let A : Answer → Type 0 = λ a. MakesStep link coding call (Resyncing turn (Seeking left)) stage' old new (Done a) in
         subst A (sym told) (fault_heard fault stage' mid new going ends heard leaves)

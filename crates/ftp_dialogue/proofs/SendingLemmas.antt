@@ -30,7 +30,7 @@ use Rattle.ftp_dialogue.specs.Dialogue.{Tree, Move, Leaf, fetch_closing_data, gi
 use Rattle.ftp_base.specs.Ascii.{most_bytes, wire_data}
 use Rattle.ftp_dialogue.specs.Link.{Link}
 use Rattle.ftp_dialogue.specs.State.{SessionValue}
-use Rattle.ftp_dialogue.specs.Steps.Moving.{AsksFirst, BreaksOff, Moves, MovesBy, Sends, Still}
+use Rattle.ftp_dialogue.specs.Steps.Moving.{AsksFirst, MakesStep, Moves, MovesBy, Sends, Still}
 use Rattle.ftp_dialogue.specs.Steps.Stages.{MayFetch, fetch_left}
 use Rattle.ftp_dialogue.proofs.Moving.{leaf_ends}
 use Rattle.ftp_dialogue.proofs.NegotiationLemmas.{moved_through, unasked_through, unchanged_still}
@@ -66,7 +66,7 @@ size_within bytes total is = go (nat_le (length bytes) most_bytes) refl is
 
 module _ (link : Link) (coding : Coding) (call : Call) where
   -- the upload can't go on
-  pub gives_up : (f : Fetched) (stage' : Stage) (fault : FtpError) (old mid new : SessionValue) → Still link (fetch_left coding old.state f) (giving_up fault old.state) old mid → new ≡ record mid { state = with_abandoned mid.state } → BreaksOff link coding call (Transferring f) stage' old new (Done (Fault fault))
+  pub gives_up : (f : Fetched) (stage' : Stage) (fault : FtpError) (old mid new : SessionValue) → Still link (fetch_left coding old.state f) (giving_up fault old.state) old mid → new ≡ record mid { state = with_abandoned mid.state } → MakesStep link coding call (Transferring f) stage' old new (Done (Fault fault))
   gives_up f stage' fault old mid new still same =
       let tree : Tree = fetch_left coding old.state f in
       let moves = still.advances.moves in
@@ -82,13 +82,13 @@ module _ (link : Link) (coding : Coding) (call : Call) where
       }
 
   -- no byte was written yet
-  pub store_starts : (bytes : List ℕ) (total : ℕ) (v : SessionValue) → MayFetch call Whole → size_to_send (wire_data v.state.settings.text bytes) ≡ Some total → BreaksOff link coding call (Transferring (Starting (task.Store bytes))) (Transferring (Sending total total (wire_data v.state.settings.text bytes))) v v Next
+  pub store_starts : (bytes : List ℕ) (total : ℕ) (v : SessionValue) → MayFetch call Whole → size_to_send (wire_data v.state.settings.text bytes) ≡ Some total → MakesStep link coding call (Transferring (Starting (task.Store bytes))) (Transferring (Sending total total (wire_data v.state.settings.text bytes))) v v Next
   store_starts bytes total v may size =
       let bytes_sent : List ℕ = wire_data v.state.settings.text bytes in
       let led : storing bytes v.state ≡ sending total total bytes_sent v.state = ap (λ s. sending_all s bytes_sent v.state) size in
       fetch_on link coding call (Starting (task.Store bytes)) (Sending total total bytes_sent) v v (unchanged_still link (storing bytes v.state) (sending total total bytes_sent v.state) v v refl (sym led)) (omega (arith, size_within bytes_sent total size)) may
 
-  pub store_too_large : (bytes : List ℕ) (stage' : Stage) (old new : SessionValue) → size_to_send (wire_data old.state.settings.text bytes) ≡ None → new ≡ record old { state = with_abandoned old.state } → BreaksOff link coding call (Transferring (Starting (task.Store bytes))) stage' old new (Done (Fault (ConnectionError SourceTooLarge)))
+  pub store_too_large : (bytes : List ℕ) (stage' : Stage) (old new : SessionValue) → size_to_send (wire_data old.state.settings.text bytes) ≡ None → new ≡ record old { state = with_abandoned old.state } → MakesStep link coding call (Transferring (Starting (task.Store bytes))) stage' old new (Done (Fault (ConnectionError SourceTooLarge)))
   store_too_large bytes stage' old new size same =
       let bytes_sent : List ℕ = wire_data old.state.settings.text bytes in
       let fault : FtpError = ConnectionError SourceTooLarge in
@@ -96,17 +96,17 @@ module _ (link : Link) (coding : Coding) (call : Call) where
       gives_up (Starting (task.Store bytes)) stage' fault old old new (unchanged_still link (storing bytes old.state) (giving_up fault old.state) old old refl (sym led)) same
 
   -- all bytes have gone out
-  pub all_sent : (left total : ℕ) (rest : List ℕ) (v : SessionValue) → rest ≡ [] → MayFetch call Whole → BreaksOff link coding call (Transferring (Sending left total rest)) (Transferring (ClosingData Whole (Count total))) v v Next
+  pub all_sent : (left total : ℕ) (rest : List ℕ) (v : SessionValue) → rest ≡ [] → MayFetch call Whole → MakesStep link coding call (Transferring (Sending left total rest)) (Transferring (ClosingData Whole (Count total))) v v Next
   all_sent left total rest v none may =
-      let B : List ℕ → Type 0 = λ l. BreaksOff link coding call (Transferring (Sending left total l)) (Transferring (ClosingData Whole (Count total))) v v Next in
+      let B : List ℕ → Type 0 = λ l. MakesStep link coding call (Transferring (Sending left total l)) (Transferring (ClosingData Whole (Count total))) v v Next in
       subst B (sym none) (fetch_on link coding call (Sending left total []) (ClosingData Whole (Count total)) v v (unchanged_still link (sending left total [] v.state) (fetch_closing_data Whole (Count total) v.state) v v refl (sym (sending_over left total v.state))) (omega arith) (may, refl))
 
   -- no other write is made
-  pub none_sent : (left total : ℕ) (rest : List ℕ) (stage' : Stage) (old new : SessionValue) → left ≡ 0 → (rest ≡ [] → ⊥) → new ≡ record old { state = with_abandoned old.state } → BreaksOff link coding call (Transferring (Sending left total rest)) stage' old new (Done (Fault (ConnectionError (Io WriteZero))))
+  pub none_sent : (left total : ℕ) (rest : List ℕ) (stage' : Stage) (old new : SessionValue) → left ≡ 0 → (rest ≡ [] → ⊥) → new ≡ record old { state = with_abandoned old.state } → MakesStep link coding call (Transferring (Sending left total rest)) stage' old new (Done (Fault (ConnectionError (Io WriteZero))))
   none_sent left total [] stage' old new none some same = absurd (some refl)
   none_sent left total (byte ∷ rest) stage' old new none some same =
       let fault : FtpError = ConnectionError (Io WriteZero) in
-      let B : ℕ → Type 0 = λ n. BreaksOff link coding call (Transferring (Sending n total (byte ∷ rest))) stage' old new (Done (Fault fault)) in
+      let B : ℕ → Type 0 = λ n. MakesStep link coding call (Transferring (Sending n total (byte ∷ rest))) stage' old new (Done (Fault fault)) in
       subst B (sym none) (gives_up (Sending zero total (byte ∷ rest)) stage' fault old old new (unchanged_still link (sending zero total (byte ∷ rest) old.state) (giving_up fault old.state) old old refl (sym (sending_none total byte rest old.state))) same)
 
   module _ (n total byte : ℕ) (more : List ℕ) (old : SessionValue) where
@@ -125,17 +125,17 @@ module _ (link : Link) (coding : Coding) (call : Call) where
         let S : Tree → Type 0 = λ t. Still link t (on_sent all on old.state outcome) old mid in
         subst S (sym (sending_is n total byte more old.state)) (moves (on_sent all on old.state))
 
-    wrote_some : (count : ℕ) (all' : List ℕ) (new : SessionValue) → MayFetch call Whole → all' ≡ drop count all → MovesBy link (movement.Write all) old new (came.Wrote count) → BreaksOff link coding call (Transferring here) (Transferring (Sending n total all')) old new Next
+    wrote_some : (count : ℕ) (all' : List ℕ) (new : SessionValue) → MayFetch call Whole → all' ≡ drop count all → MovesBy link (movement.Write all) old new (came.Wrote count) → MakesStep link coding call (Transferring here) (Transferring (Sending n total all')) old new Next
     wrote_some count all' new may is moves =
-        let B : List ℕ → Type 0 = λ l. BreaksOff link coding call (Transferring here) (Transferring (Sending n total l)) old new Next in
+        let B : List ℕ → Type 0 = λ l. MakesStep link coding call (Transferring here) (Transferring (Sending n total l)) old new Next in
         subst B (sym is) (fetch_on link coding call here (Sending n total (drop count all)) old new (written (came.Wrote count) new moves) (omega arith) may)
 
-    wrote_none : (kind : ErrorKind) (stage' : Stage) (mid new : SessionValue) → MovesBy link (movement.Write all) old mid (came.Failed kind) → new ≡ record mid { state = with_abandoned mid.state } → BreaksOff link coding call (Transferring here) stage' old new (Done (Fault (ConnectionError (Io kind))))
+    wrote_none : (kind : ErrorKind) (stage' : Stage) (mid new : SessionValue) → MovesBy link (movement.Write all) old mid (came.Failed kind) → new ≡ record mid { state = with_abandoned mid.state } → MakesStep link coding call (Transferring here) stage' old new (Done (Fault (ConnectionError (Io kind))))
     wrote_none kind stage' mid new moves same = gives_up here stage' (ConnectionError (Io kind)) old mid new (written (came.Failed kind) mid moves) same
 
-    writes_later : (all' : List ℕ) (new : SessionValue) → MayFetch call Whole → all' ≡ all → ((tree : Tree) → Still link tree tree old new) → link.asks_wait → BreaksOff link coding call (Transferring here) (Transferring (Sending (suc n) total all')) old new Pending
+    writes_later : (all' : List ℕ) (new : SessionValue) → MayFetch call Whole → all' ≡ all → ((tree : Tree) → Still link tree tree old new) → link.asks_wait → MakesStep link coding call (Transferring here) (Transferring (Sending (suc n) total all')) old new Pending
     writes_later all' new may same still waits =
-        let P : List ℕ → Type 0 = λ l. BreaksOff link coding call (Transferring here) (Transferring (Sending (suc n) total l)) old new Pending in
+        let P : List ℕ → Type 0 = λ l. MakesStep link coding call (Transferring here) (Transferring (Sending (suc n) total l)) old new Pending in
         let A : Tree → Type 0 = AsksFirst in
         subst P (sym same) (record {
           steps = ((still (sending (suc n) total all old.state)).advances, inr (inr (record { asks = subst A (sym (sending_is n total byte more old.state)) tt; may = waits })));
@@ -147,20 +147,20 @@ module _ (link : Link) (coding : Coding) (call : Call) where
         })
 
   -- the same of bytes of which some are left, by a write of several that may be made
-  pub sent_some : (left total : ℕ) (rest rest' : List ℕ) (old new : SessionValue) → MayFetch call Whole → (left ≡ 0 → ⊥) → (rest ≡ [] → ⊥) → Sends link rest rest' old new (Ok (poll.Ready tt)) → BreaksOff link coding call (Transferring (Sending left total rest)) (Transferring (Sending (left - 1) total rest')) old new Next
+  pub sent_some : (left total : ℕ) (rest rest' : List ℕ) (old new : SessionValue) → MayFetch call Whole → (left ≡ 0 → ⊥) → (rest ≡ [] → ⊥) → Sends link rest rest' old new (Ok (poll.Ready tt)) → MakesStep link coding call (Transferring (Sending left total rest)) (Transferring (Sending (left - 1) total rest')) old new Next
   sent_some zero total rest rest' old new may several some sends = absurd (several refl)
   sent_some (suc n) total [] rest' old new may several some sends = absurd (some refl)
   sent_some (suc n) total (byte ∷ more) rest' old new may several some sends =
       let e : suc n - 1 ≡ n = omega arith in
-      let B : ℕ → Type 0 = λ k. BreaksOff link coding call (Transferring (Sending (suc n) total (byte ∷ more))) (Transferring (Sending k total rest')) old new Next in
+      let B : ℕ → Type 0 = λ k. MakesStep link coding call (Transferring (Sending (suc n) total (byte ∷ more))) (Transferring (Sending k total rest')) old new Next in
       subst B (sym e) (wrote_some n total byte more old sends.0 rest' new may sends.1 sends.2)
 
-  pub sent_none : (left total : ℕ) (rest rest' : List ℕ) (kind : ErrorKind) (stage' : Stage) (old mid new : SessionValue) → (left ≡ 0 → ⊥) → (rest ≡ [] → ⊥) → Sends link rest rest' old mid (Err kind) → new ≡ record mid { state = with_abandoned mid.state } → BreaksOff link coding call (Transferring (Sending left total rest)) stage' old new (Done (Fault (ConnectionError (Io kind))))
+  pub sent_none : (left total : ℕ) (rest rest' : List ℕ) (kind : ErrorKind) (stage' : Stage) (old mid new : SessionValue) → (left ≡ 0 → ⊥) → (rest ≡ [] → ⊥) → Sends link rest rest' old mid (Err kind) → new ≡ record mid { state = with_abandoned mid.state } → MakesStep link coding call (Transferring (Sending left total rest)) stage' old new (Done (Fault (ConnectionError (Io kind))))
   sent_none zero total rest rest' kind stage' old mid new several some sends same = absurd (several refl)
   sent_none (suc n) total [] rest' kind stage' old mid new several some sends same = absurd (some refl)
   sent_none (suc n) total (byte ∷ more) rest' kind stage' old mid new several some sends same = wrote_none n total byte more old kind stage' mid new sends same
 
-  pub sends_later : (left total : ℕ) (rest rest' : List ℕ) (old new : SessionValue) → MayFetch call Whole → (left ≡ 0 → ⊥) → (rest ≡ [] → ⊥) → Sends link rest rest' old new (Ok poll.Pending) → BreaksOff link coding call (Transferring (Sending left total rest)) (Transferring (Sending left total rest')) old new Pending
+  pub sends_later : (left total : ℕ) (rest rest' : List ℕ) (old new : SessionValue) → MayFetch call Whole → (left ≡ 0 → ⊥) → (rest ≡ [] → ⊥) → Sends link rest rest' old new (Ok poll.Pending) → MakesStep link coding call (Transferring (Sending left total rest)) (Transferring (Sending left total rest')) old new Pending
   sends_later zero total rest rest' old new may several some sends = absurd (several refl)
   sends_later (suc n) total [] rest' old new may several some sends = absurd (some refl)
   sends_later (suc n) total (byte ∷ more) rest' old new may several some (same, still, waits) = writes_later n total byte more old rest' new may same still waits

@@ -169,6 +169,12 @@ exchange_begins link coding call turn stage' old new (Done answer) going refused
     let R : Answer → Type 0 = P (after_fault (is_later turn) refused.fault old) in
     subst Q (sym refused.leaves) (subst R (sym refused.is) (refused_ends link coding call turn refused.fault old going refused.cause))
 
+-- once something was said or taken no step is a first one
+pub begun_is_quiet : (link : Link) (coding : Coding) (call : Call) (stage stage' : Stage) (old new : SessionValue) (result : Step) → (result ≡ Next → begun_at stage' ≡ true) → Quiet link coding call stage stage' old new result
+begun_is_quiet link coding call stage stage' old new Next goes = λ none. let clash : true ≡ false = sym (goes refl) ∙ none in cc
+begun_is_quiet link coding call stage stage' old new Pending goes = tt
+begun_is_quiet link coding call stage stage' old new (Done answer) goes = tt
+
 pub exchange_is_quiet : (link : Link) (coding : Coding) (call : Call) (turn : Turn) (stage' : Stage) (old new : SessionValue) (step : Step) → BeginsExchange coding call turn stage' old new step → Quiet link coding call (At turn) stage' old new step
 exchange_is_quiet link coding call turn stage' old new Next begins = λ begun.
     let is : remaining coding call old.state stage' ≡ from_turn coding call turn old.state = begins.1.same old.state in

@@ -13,7 +13,7 @@ ghost use Rattle.ftp_control.specs.Refusal.{IsRefusalOf};
 ghost use Rattle.ftp_transport.specs.Told.{EndsAsTold};
 ghost use Rattle.ftp_dialogue.specs.Coding.{Coding, coding_of};
 ghost use Rattle.ftp_dialogue.specs.Link.{asking, polling};
-ghost use Rattle.ftp_dialogue.specs.Steps.Moving.{BreaksOff};
+ghost use Rattle.ftp_dialogue.specs.Steps.Moving.{MakesStep};
 ghost use Rattle.ftp_dialogue.specs.Steps.Stages.{is_out};
 
 use super::asks::Asks;
@@ -48,7 +48,7 @@ impl<Tr: Network> Machine<Tr> {
         ensures waits { result ≡ Step.Pending → Tr.Conn.may_wait }
         ensures end { Tr.Conn.tells → Tr.Conn.may_wait →
             EndsAsTold self.old.channel.ended self.new.channel.ended self.old.channel.told }
-        ensures breaks { BreaksOff (asking (A.builds asker.now) A.may_wait (polling
+        ensures makes { MakesStep (asking (A.builds asker.now) A.may_wait (polling
             Tr.Conn.PollConn)) (coding_of E.decoded E.encoded encoding.now) call.now
             (Stage.Aborting aborting) stage.new self.old self.new result }
     {
@@ -74,7 +74,7 @@ impl<Tr: Network> Machine<Tr> {
         requires aborts { aborts call.now ≡ true }
         ensures moves { result ≡ Step.Pending → ⊥ }
         ensures end { self.new.channel.ended ≡ self.old.channel.ended }
-        ensures breaks { BreaksOff (asking (A.builds _asker.now) A.may_wait (polling
+        ensures makes { MakesStep (asking (A.builds _asker.now) A.may_wait (polling
             Tr.Conn.PollConn)) (coding_of E.decoded E.encoded encoding.now) call.now
             (Stage.Aborting Aborting.Wording) stage.new self.old self.new result }
     {
@@ -103,8 +103,8 @@ impl<Tr: Network> Machine<Tr> {
         ensures waits { result ≡ Step.Pending → Tr.Conn.may_wait }
         ensures end { Tr.Conn.tells → Tr.Conn.may_wait →
             EndsAsTold self.old.channel.ended self.new.channel.ended self.old.channel.told }
-        ensures breaks { (coding : Coding) →
-            BreaksOff (asking (A.builds asker.now) A.may_wait (polling Tr.Conn.PollConn)) coding
+        ensures makes { (coding : Coding) →
+            MakesStep (asking (A.builds asker.now) A.may_wait (polling Tr.Conn.PollConn)) coding
             call.now
             (Stage.Aborting (Aborting.Sending line)) stage.new self.old self.new result }
     {
@@ -135,8 +135,8 @@ impl<Tr: Network> Machine<Tr> {
         requires aborts { aborts _call.now ≡ true }
         ensures moves { result ≡ Step.Pending → ⊥ }
         ensures end { self.new.channel.ended ≡ self.old.channel.ended }
-        ensures breaks { (coding : Coding) →
-            BreaksOff (asking (A.builds _asker.now) A.may_wait (polling Tr.Conn.PollConn)) coding
+        ensures makes { (coding : Coding) →
+            MakesStep (asking (A.builds _asker.now) A.may_wait (polling Tr.Conn.PollConn)) coding
             _call.now
             (Stage.Aborting Aborting.ClosingData) stage.new self.old self.new result }
     {

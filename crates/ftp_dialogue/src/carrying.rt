@@ -11,7 +11,7 @@ ghost use Rattle.ftp_dialogue.specs.Dialogue.{moved_answer, told_of_close};
 ghost use Rattle.ftp_dialogue.specs.Link.{asking, polling};
 ghost use Rattle.ftp_dialogue.specs.Play.{Taken, lacks};
 ghost use Rattle.ftp_dialogue.specs.Promises.{IsRefused, LeavesIf, refusal_of};
-ghost use Rattle.ftp_dialogue.specs.Steps.Moving.{Carries, CarriesOut, Sets, Walks};
+ghost use Rattle.ftp_dialogue.specs.Steps.Moving.{Carries, CarriesOut, Sets, MakesStep};
 
 use super::asks::Asks;
 use super::gathered::fitted;
@@ -98,9 +98,10 @@ impl<Tr: Network> Machine<Tr> {
         Tr::Conn: PollConn<W>,
         requires going { self.old.channel.failed ≡ false }
         requires finishes { finishes _call.now ≡ true }
+        ensures moves { result ≡ Step.Pending → ⊥ }
         ensures end { self.new.channel.ended ≡ self.old.channel.ended }
-        ensures walks { (coding : Coding) →
-            Walks (asking (A.builds _asker.now) A.may_wait (polling Tr.Conn.PollConn)) coding
+        ensures makes { (coding : Coding) →
+            MakesStep (asking (A.builds _asker.now) A.may_wait (polling Tr.Conn.PollConn)) coding
             _call.now
             Stage.Closing stage.new self.old self.new result }
     {

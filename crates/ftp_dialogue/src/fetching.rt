@@ -12,7 +12,7 @@ ghost use Rattle.ftp_dialogue.specs.Coding.{Coding, coding_of};
 ghost use Rattle.ftp_calls.specs.declared.exchange.Task.TheVariants as tasks;
 ghost use Rattle.ftp_dialogue.specs.Dialogue.{closed_as, fault_or, fetched, first_fault, too_long, unfetched};
 ghost use Rattle.ftp_dialogue.specs.Link.{asking, polling};
-ghost use Rattle.ftp_dialogue.specs.Steps.Moving.{BreaksOff, EndsFetch, Follows, Grows};
+ghost use Rattle.ftp_dialogue.specs.Steps.Moving.{MakesStep, EndsFetch, Follows, Grows};
 ghost use Rattle.ftp_dialogue.specs.Steps.Stages.{FetchOf, MayFetch};
 
 use super::asks::Asks;
@@ -59,7 +59,7 @@ impl<Tr: Network> Machine<Tr> {
         ensures waits { result ≡ Step.Pending → Tr.Conn.may_wait ⊎ A.may_wait }
         ensures end { Tr.Conn.tells → Tr.Conn.may_wait →
             EndsAsTold self.old.channel.ended self.new.channel.ended self.old.channel.told }
-        ensures breaks { BreaksOff (asking (A.builds asker.now) A.may_wait (polling
+        ensures makes { MakesStep (asking (A.builds asker.now) A.may_wait (polling
             Tr.Conn.PollConn)) (coding_of E.decoded E.encoded encoding.now) call.now
             (Stage.Transferring fetching) stage.new self.old self.new result }
     {
@@ -100,7 +100,7 @@ impl<Tr: Network> Machine<Tr> {
         requires of { MayFetch _call.now form }
         ensures moves { result ≡ Step.Pending → ⊥ }
         ensures end { self.new.channel.ended ≡ self.old.channel.ended }
-        ensures breaks { (coding : Coding) → BreaksOff (asking (A.builds _asker.now) A.may_wait
+        ensures makes { (coding : Coding) → MakesStep (asking (A.builds _asker.now) A.may_wait
             (polling Tr.Conn.PollConn)) coding _call.now
             (Stage.Transferring (Transferring.Starting (tasks.Fetch form))) stage.new self.old
             self.new result }
@@ -133,7 +133,7 @@ impl<Tr: Network> Machine<Tr> {
         requires may { A.may_ask }
         ensures waits { result ≡ Step.Pending → A.may_wait }
         ensures end { self.new.channel.ended ≡ self.old.channel.ended }
-        ensures breaks { BreaksOff (asking (A.builds asker.now) A.may_wait (polling
+        ensures makes { MakesStep (asking (A.builds asker.now) A.may_wait (polling
             Tr.Conn.PollConn)) (coding_of E.decoded E.encoded encoding.now) _call.now
             (Stage.Transferring (Transferring.Gathering form left gathered)) stage.new self.old
             self.new result }
@@ -209,7 +209,7 @@ impl<Tr: Network> Machine<Tr> {
         requires of { FetchOf _call.now (Transferring.ClosingData form answer) }
         ensures moves { result ≡ Step.Pending → ⊥ }
         ensures end { self.new.channel.ended ≡ self.old.channel.ended }
-        ensures breaks { (coding : Coding) → BreaksOff (asking (A.builds _asker.now) A.may_wait
+        ensures makes { (coding : Coding) → MakesStep (asking (A.builds _asker.now) A.may_wait
             (polling Tr.Conn.PollConn)) coding _call.now
             (Stage.Transferring (Transferring.ClosingData form answer)) stage.new self.old self.new
             result }
@@ -242,7 +242,7 @@ impl<Tr: Network> Machine<Tr> {
         ensures waits { result ≡ Step.Pending → Tr.Conn.may_wait }
         ensures end { Tr.Conn.tells → Tr.Conn.may_wait →
             EndsAsTold self.old.channel.ended self.new.channel.ended self.old.channel.told }
-        ensures breaks { (coding : Coding) → BreaksOff (asking (A.builds asker.now) A.may_wait
+        ensures makes { (coding : Coding) → MakesStep (asking (A.builds asker.now) A.may_wait
             (polling Tr.Conn.PollConn)) coding _call.now
             (Stage.Transferring (Transferring.Ending form answer)) stage.new self.old self.new
             result }

@@ -2,7 +2,7 @@
 //! RFC 2428).
 //!
 //! Addresses are looked up on the control connection; the transport is asked to connect, or to listen and to accept.
-//! What it makes stays in the machine. `walk` asks what is due (`questions`), and `after` says what follows.
+//! What it makes stays in the machine. `open_data` asks what is due (`questions`), and `after` says what follows.
 
 ghost use Rattle.std.specs.Prelude.{◌≡◌, true, false};
 ghost use Rattle.ftp_calls.specs.Exchanges.{negotiates, next_turn};
@@ -10,7 +10,7 @@ ghost use Rattle.ftp_dialogue.specs.Coding.{Coding};
 ghost use Rattle.ftp_dialogue.specs.Dialogue.{at_port, is_ipv4};
 ghost use Rattle.ftp_dialogue.specs.Link.{asking, polling};
 ghost use Rattle.ftp_dialogue.specs.Sound.{cannot_open};
-ghost use Rattle.ftp_dialogue.specs.Steps.Moving.{Walks};
+ghost use Rattle.ftp_dialogue.specs.Steps.Moving.{MakesStep};
 ghost use Rattle.ftp_dialogue.specs.Steps.Questions.{Arrives, Continues, Fits, builds_as, connects_as, first_unless, listens_as, question_at, to_turn};
 ghost use Rattle.ftp_dialogue.specs.Steps.Stages.{AskingOf, WayOf, first_by, has_asked};
 
@@ -41,7 +41,7 @@ pub enum Reached {
 
 impl<Tr: Network> Machine<Tr> {
     /// One node on the way to a data connection.
-    pub(super) fn walk<W, A: Asks<Tr, W>>(
+    pub(super) fn open_data<W, A: Asks<Tr, W>>(
         &mut self,
         asker: &A,
         call: &Call,
@@ -55,9 +55,10 @@ impl<Tr: Network> Machine<Tr> {
         requires opens { negotiates call.now ≡ true }
         requires may { A.may_ask }
         requires way { WayOf call.now opening_data }
+        ensures waits { result ≡ Step.Pending → A.may_wait }
         ensures end { self.new.channel.ended ≡ self.old.channel.ended }
-        ensures walks { (coding : Coding) →
-            Walks (asking (A.builds asker.now) A.may_wait (polling Tr.Conn.PollConn)) coding
+        ensures makes { (coding : Coding) →
+            MakesStep (asking (A.builds asker.now) A.may_wait (polling Tr.Conn.PollConn)) coding
             call.now
             (Stage.OpeningData opening_data) stage.new self.old self.new result }
     {
@@ -86,6 +87,7 @@ impl<Tr: Network> Machine<Tr> {
 
     /// The machine gets there.
     fn arrive(&mut self, reached: Reached, stage: &mut Stage) -> Step
+        ensures moves { result ≡ Step.Pending → ⊥ }
         ensures end { self.new.channel.ended ≡ self.old.channel.ended }
         ensures arrives { Arrives reached stage.new self.old self.new result }
     {

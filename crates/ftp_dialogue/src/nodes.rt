@@ -343,7 +343,7 @@ pub(crate) fn conclude_fault(
     ensures { FaultLeaves begun ending fault state.old state.new result }
 {
     if wants_memory(&fault) {
-        lose(begun, ending, state);
+        abort_without_reply(begun, ending, state);
         return Answer::Fault(fault);
     }
     match ending {
@@ -377,7 +377,7 @@ pub(crate) fn conclude_fault(
 }
 
 /// Memory ran out for a reply: an abort that has begun is one, and nothing else changes.
-fn lose(begun: bool, ending: Ending, state: &mut State)
+fn abort_without_reply(begun: bool, ending: Ending, state: &mut State)
     ensures { state.new ≡ (if begun then after_fault_of ending FtpError.OutOfMemory state.old else
         state.old) }
 {

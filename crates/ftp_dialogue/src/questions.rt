@@ -81,8 +81,8 @@ impl<Tr: Network> Machine<Tr> {
     {
         match question {
             Question::Room => self.ask_for_room(asker, w),
-            Question::OwnAddress => self.look_here(asker, w),
-            Question::PeerAddress => self.look_there(asker, w),
+            Question::OwnAddress => self.local_addr(asker, w),
+            Question::PeerAddress => self.peer_addr(asker, w),
             Question::Connection(address) => self.ask_to_connect(asker, address, w),
             Question::Building(address) => self.ask_to_build(asker, address, w),
             Question::Listener(address) => self.ask_to_listen(asker, address, w),

@@ -183,7 +183,7 @@ impl<Tr: Network> Machine<Tr> {
     }
 
     /// The address of this end of the control connection.
-    pub(super) fn look_here<W, A: Asks<Tr, W>>(&mut self, _asker: &A, _w: &mut W) -> Asked
+    pub(super) fn local_addr<W, A: Asks<Tr, W>>(&mut self, _asker: &A, _w: &mut W) -> Asked
     where
         Tr::Conn: PollConn<W>,
         requires going { self.old.channel.failed ≡ false }
@@ -197,7 +197,7 @@ impl<Tr: Network> Machine<Tr> {
     }
 
     /// The address of the other end of the control connection.
-    pub(super) fn look_there<W, A: Asks<Tr, W>>(&mut self, _asker: &A, _w: &mut W) -> Asked
+    pub(super) fn peer_addr<W, A: Asks<Tr, W>>(&mut self, _asker: &A, _w: &mut W) -> Asked
     where
         Tr::Conn: PollConn<W>,
         requires going { self.old.channel.failed ≡ false }

@@ -11,7 +11,7 @@ ghost use Rattle.ftp_dialogue.specs.Coding.{Coding, coding_of};
 ghost use Rattle.ftp_dialogue.specs.Dialogue.{ends_search};
 ghost use Rattle.ftp_dialogue.specs.Link.{asking, polling};
 ghost use Rattle.ftp_dialogue.specs.Sound.{some_live};
-ghost use Rattle.ftp_dialogue.specs.Steps.Moving.{BreaksOff};
+ghost use Rattle.ftp_dialogue.specs.Steps.Moving.{MakesStep};
 ghost use Rattle.ftp_dialogue.specs.Steps.Stages.{FollowsSought, StageOf};
 
 use super::asks::Asks;
@@ -52,7 +52,7 @@ impl<Tr: Network> Machine<Tr> {
         ensures net { self.new.net ≡ self.old.net }
         ensures end { Tr.Conn.tells → Tr.Conn.may_wait →
             EndsAsTold self.old.channel.ended self.new.channel.ended self.old.channel.told }
-        ensures breaks { BreaksOff (asking (A.builds asker.now) A.may_wait (polling
+        ensures makes { MakesStep (asking (A.builds asker.now) A.may_wait (polling
             Tr.Conn.PollConn)) (coding_of E.decoded E.encoded encoding.now) call.now
             (Stage.Resyncing turn resyncing) stage.new self.old self.new result }
     {
@@ -80,7 +80,7 @@ impl<Tr: Network> Machine<Tr> {
         ensures moves { result ≡ Step.Pending → ⊥ }
         ensures net { self.new.net ≡ self.old.net }
         ensures end { self.new.channel.ended ≡ self.old.channel.ended }
-        ensures breaks { BreaksOff (asking (A.builds _asker.now) A.may_wait (polling
+        ensures makes { MakesStep (asking (A.builds _asker.now) A.may_wait (polling
             Tr.Conn.PollConn)) (coding_of E.decoded E.encoded encoding.now) call.now
             (Stage.Resyncing turn Resyncing.Wording) stage.new self.old self.new result }
     {
@@ -127,8 +127,8 @@ impl<Tr: Network> Machine<Tr> {
         ensures net { self.new.net ≡ self.old.net }
         ensures end { Tr.Conn.tells → Tr.Conn.may_wait →
             EndsAsTold self.old.channel.ended self.new.channel.ended self.old.channel.told }
-        ensures breaks { (coding : Coding) →
-            BreaksOff (asking (A.builds asker.now) A.may_wait (polling Tr.Conn.PollConn)) coding
+        ensures makes { (coding : Coding) →
+            MakesStep (asking (A.builds asker.now) A.may_wait (polling Tr.Conn.PollConn)) coding
             call.now
             (Stage.Resyncing turn (Resyncing.Sending line)) stage.new self.old self.new result }
     {
@@ -167,8 +167,8 @@ impl<Tr: Network> Machine<Tr> {
         ensures net { self.new.net ≡ self.old.net }
         ensures end { Tr.Conn.tells → Tr.Conn.may_wait →
             EndsAsTold self.old.channel.ended self.new.channel.ended self.old.channel.told }
-        ensures breaks { (coding : Coding) →
-            BreaksOff (asking (A.builds asker.now) A.may_wait (polling Tr.Conn.PollConn)) coding
+        ensures makes { (coding : Coding) →
+            MakesStep (asking (A.builds asker.now) A.may_wait (polling Tr.Conn.PollConn)) coding
             call.now
             (Stage.Resyncing turn (Resyncing.Seeking left)) stage.new self.old self.new result }
     {

@@ -8,7 +8,7 @@ ghost use Rattle.ftp_calls.specs.declared.exchange.Task.TheVariants.{Store};
 ghost use Rattle.ftp_dialogue.specs.Coding.{Coding};
 ghost use Rattle.ftp_dialogue.specs.Dialogue.{with_abandoned};
 ghost use Rattle.ftp_dialogue.specs.Link.{asking, polling};
-ghost use Rattle.ftp_dialogue.specs.Steps.Moving.{BreaksOff, Sends};
+ghost use Rattle.ftp_dialogue.specs.Steps.Moving.{MakesStep, Sends};
 ghost use Rattle.ftp_dialogue.specs.Steps.Stages.{MayFetch};
 
 use super::asks::Asks;
@@ -38,7 +38,7 @@ impl<Tr: Network> Machine<Tr> {
         requires of { MayFetch _call.now Whole }
         ensures moves { result ≡ Step.Pending → ⊥ }
         ensures end { self.new.channel.ended ≡ self.old.channel.ended }
-        ensures breaks { (coding : Coding) → BreaksOff (asking (A.builds _asker.now) A.may_wait
+        ensures makes { (coding : Coding) → MakesStep (asking (A.builds _asker.now) A.may_wait
             (polling Tr.Conn.PollConn)) coding _call.now
             (Stage.Transferring (Transferring.Starting (Store bytes))) stage.new self.old self.new
             result }
@@ -75,7 +75,7 @@ impl<Tr: Network> Machine<Tr> {
         requires may { A.may_ask }
         ensures waits { result ≡ Step.Pending → A.may_wait }
         ensures end { self.new.channel.ended ≡ self.old.channel.ended }
-        ensures breaks { (coding : Coding) → BreaksOff (asking (A.builds asker.now) A.may_wait
+        ensures makes { (coding : Coding) → MakesStep (asking (A.builds asker.now) A.may_wait
             (polling Tr.Conn.PollConn)) coding _call.now
             (Stage.Transferring (Transferring.Sending left total unsent)) stage.new self.old
             self.new result }

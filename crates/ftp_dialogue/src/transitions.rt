@@ -11,7 +11,7 @@ ghost use Rattle.ftp_dialogue.specs.Dialogue.{Tree, armed};
 ghost use Rattle.ftp_calls.specs.Exchanges.{finishes, is_read, negotiates};
 ghost use Rattle.ftp_dialogue.specs.Link.{asking, polling};
 ghost use Rattle.ftp_dialogue.specs.Promises.{Rests, failed_from};
-ghost use Rattle.ftp_dialogue.specs.Steps.Moving.{BeginsExchange, Concludes, EndsFaulty, HasBegun, PollSteps, Quiet, Steps, Tracks, after_fault};
+ghost use Rattle.ftp_dialogue.specs.Steps.Moving.{BeginsExchange, Concludes, EndsFaulty, HasBegun, MakesStep, PollSteps, after_fault};
 ghost use Rattle.ftp_dialogue.specs.Steps.Stages.{PollAnswers, StageAfter, StageOf, StepAnswers, begun_at, nodes_left, remaining};
 
 use super::asks::Asks;
@@ -47,26 +47,14 @@ impl<Tr: Network> Machine<Tr> {
         requires going { self.old.channel.failed ≡ false }
         requires stage { StageOf call.now stage.old }
         requires may { negotiates call.now ≡ true → A.may_ask }
-        ensures stage { StageAfter call.now stage.new result }
         ensures waits { result ≡ Step.Pending → Tr.Conn.may_wait ⊎ A.may_wait }
         ensures net { negotiates call.now ≡ false → finishes call.now ≡ false → self.new.net ≡
             self.old.net }
         ensures end { Tr.Conn.tells → Tr.Conn.may_wait →
             EndsAsTold self.old.channel.ended self.new.channel.ended self.old.channel.told }
-        ensures answers { StepAnswers call.now result }
-        ensures fewer { result ≡ Step.Next → nodes_left stage.new < nodes_left stage.old }
-        ensures steps { let coding = coding_of E.decoded E.encoded encoding.now in
-            Steps (asking (A.builds asker.now) A.may_wait (polling Tr.Conn.PollConn)) (begun_at
-            stage.old)
-            (remaining coding call.now self.old.state stage.old)
-            (remaining coding call.now self.old.state stage.new) self.old self.new result }
-        ensures quiet { Quiet (asking (A.builds asker.now) A.may_wait (polling Tr.Conn.PollConn))
-            (coding_of E.decoded E.encoded encoding.now) call.now stage.old
-            stage.new self.old self.new result }
-        ensures begun { let coding = coding_of E.decoded E.encoded encoding.now in
-            Tracks (asking (A.builds asker.now) A.may_wait (polling Tr.Conn.PollConn)) (begun_at
-            stage.old) (begun_at stage.new)
-            (remaining coding call.now self.old.state stage.old) self.old self.new result }
+        ensures makes { MakesStep (asking (A.builds asker.now) A.may_wait (polling Tr.Conn.PollConn))
+            (coding_of E.decoded E.encoded encoding.now) call.now stage.old stage.new self.old
+            self.new result }
         ensures rests { result ≡ Step.Pending → is_read call.now ≡ true →
             Rests (asking (A.builds asker.now) A.may_wait (polling Tr.Conn.PollConn)) self.old
             self.new }
@@ -81,7 +69,7 @@ impl<Tr: Network> Machine<Tr> {
             Stage::Resyncing(turn, resyncing) => self.resync(
                 asker, alloc, encoding, call, turn, resyncing, stage, w,
             ),
-            Stage::OpeningData(opening_data) => self.walk(asker, call, opening_data, stage, w),
+            Stage::OpeningData(opening_data) => self.open_data(asker, call, opening_data, stage, w),
             Stage::Closing => self.close(asker, call, stage, w),
             Stage::Aborting(aborting) => self.abort(
                 asker, alloc, encoding, call, aborting, stage, w,
@@ -144,24 +132,13 @@ impl<Tr: Network> Machine<Tr> {
     where
         Tr::Conn: PollConn<W>,
         requires going { self.old.channel.failed ≡ false }
-        ensures stage { (call : Call) →
-            StageOf call (Stage.Saying line awaits) → StageAfter call stage.new result }
         ensures waits { result ≡ Step.Pending → Tr.Conn.may_wait ⊎ A.may_wait }
         ensures net { self.new.net ≡ self.old.net }
         ensures end { Tr.Conn.tells → Tr.Conn.may_wait →
             EndsAsTold self.old.channel.ended self.new.channel.ended self.old.channel.told }
-        ensures answers { (call : Call) → StepAnswers call result }
-        ensures fewer { result ≡ Step.Next →
-            nodes_left stage.new < nodes_left (Stage.Saying line awaits) }
-        ensures steps { (coding : Coding) (call : Call) → Steps (asking (A.builds asker.now)
-            A.may_wait (polling Tr.Conn.PollConn))
-            (begun_at (Stage.Saying line awaits)) (remaining coding call self.old.state
-            (Stage.Saying line awaits))
-            (remaining coding call self.old.state stage.new) self.old self.new result }
-        ensures goes_on { result ≡ Step.Next → begun_at stage.new ≡ true }
-        ensures begun { (tree : Tree) → Tracks (asking (A.builds asker.now) A.may_wait (polling
-            Tr.Conn.PollConn)) (begun_at (Stage.Saying line awaits))
-            (begun_at stage.new) tree self.old self.new result }
+        ensures makes { (coding : Coding) (call : Call) → StageOf call (Stage.Saying line awaits) →
+            MakesStep (asking (A.builds asker.now) A.may_wait (polling Tr.Conn.PollConn)) coding
+            call (Stage.Saying line awaits) stage.new self.old self.new result }
     {
         match self.say(asker, &mut line, w) {
             Step::Next => {
@@ -194,24 +171,13 @@ impl<Tr: Network> Machine<Tr> {
         Tr::Conn: PollConn<W>,
         requires going { self.old.channel.failed ≡ false }
         requires stage { StageOf call.now (Stage.Hearing awaits) }
-        ensures stage { StageAfter call.now stage.new result }
         ensures waits { result ≡ Step.Pending → Tr.Conn.may_wait ⊎ A.may_wait }
         ensures net { self.new.net ≡ self.old.net }
         ensures end { Tr.Conn.tells → Tr.Conn.may_wait →
             EndsAsTold self.old.channel.ended self.new.channel.ended self.old.channel.told }
-        ensures answers { StepAnswers call.now result }
-        ensures fewer { result ≡ Step.Next →
-            nodes_left stage.new < nodes_left (Stage.Hearing awaits) }
-        ensures steps { let coding = coding_of E.decoded E.encoded encoding.now in
-            Steps (asking (A.builds asker.now) A.may_wait (polling Tr.Conn.PollConn)) awaits.begun
-            (remaining coding call.now self.old.state (Stage.Hearing awaits))
-            (remaining coding call.now self.old.state stage.new) self.old self.new result }
-        ensures goes_on { result ≡ Step.Next → begun_at stage.new ≡ true }
-        ensures begun { let coding = coding_of E.decoded E.encoded encoding.now in
-            Tracks (asking (A.builds asker.now) A.may_wait (polling Tr.Conn.PollConn)) awaits.begun
-            (begun_at stage.new)
-            (remaining coding call.now self.old.state (Stage.Hearing awaits)) self.old self.new
-            result }
+        ensures makes { MakesStep (asking (A.builds asker.now) A.may_wait (polling Tr.Conn.PollConn))
+            (coding_of E.decoded E.encoded encoding.now) call.now (Stage.Hearing awaits) stage.new
+            self.old self.new result }
         ensures rests { result ≡ Step.Pending → Rests (asking (A.builds asker.now) A.may_wait
             (polling Tr.Conn.PollConn)) self.old self.new }
     {

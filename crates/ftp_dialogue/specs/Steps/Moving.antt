@@ -298,24 +298,14 @@ Quiet link coding call stage stage' old new Next = begun_at stage' ≡ false →
 Quiet link coding call stage stage' old new Pending = Unit {0}
 Quiet link coding call stage stage' old new (Done answer) = Unit {0}
 
--- a step of an abort, or of a call that reads a whole data connection
-pub record BreaksOff (link : Link) (coding : Coding) (call : Call) (stage stage' : Stage) (old new : SessionValue) (result : Step) : Type 0 where
+-- a step of a call: what it makes of the dialogue, whether that has begun, and where the call stands after it
+pub record MakesStep (link : Link) (coding : Coding) (call : Call) (stage stage' : Stage) (old new : SessionValue) (result : Step) : Type 0 where
   pub steps : Steps link (begun_at stage) (remaining coding call old.state stage) (remaining coding call old.state stage') old new result
   pub quiet : Quiet link coding call stage stage' old new result
   pub begun : Tracks link (begun_at stage) (begun_at stage') (remaining coding call old.state stage) old new result
   pub answers : StepAnswers call result
   pub fewer : result ≡ Next → nodes_left stage' < nodes_left stage
   pub stage_of : StageAfter call stage' result
-
--- a step on the way to a data connection
-pub record Walks (link : Link) (coding : Coding) (call : Call) (stage stage' : Stage) (old new : SessionValue) (result : Step) : Type 0 where
-  pub steps : Steps link (begun_at stage) (remaining coding call old.state stage) (remaining coding call old.state stage') old new result
-  pub quiet : Quiet link coding call stage stage' old new result
-  pub begun : Tracks link (begun_at stage) (begun_at stage') (remaining coding call old.state stage) old new result
-  pub answers : StepAnswers call result
-  pub fewer : result ≡ Next → nodes_left stage' < nodes_left stage
-  pub stage_of : StageAfter call stage' result
-  pub waits : result ≡ Pending → link.asks_wait
 
 -- an exchange begins, and nothing else happens; or its line is refused, or finds no memory
 pub record IsRefusedLine (coding : Coding) (call : Call) (turn : Turn) (old new : SessionValue) (answer : Answer) : Type 0 where

@@ -4,10 +4,10 @@ pub returns-in-Room-clause-asks : goal.returns-in-Room-clause-asks
 returns-in-Room-clause-asks g c = rw c.in-Room.is c.ask_for_room.ensures.asks
 
 pub returns-in-OwnAddress-clause-asks : goal.returns-in-OwnAddress-clause-asks
-returns-in-OwnAddress-clause-asks g c = rw c.in-OwnAddress.is c.look_here.ensures.asks
+returns-in-OwnAddress-clause-asks g c = rw c.in-OwnAddress.is c.local_addr.ensures.asks
 
 pub returns-in-PeerAddress-clause-asks : goal.returns-in-PeerAddress-clause-asks
-returns-in-PeerAddress-clause-asks g c = rw c.in-PeerAddress.is c.look_there.ensures.asks
+returns-in-PeerAddress-clause-asks g c = rw c.in-PeerAddress.is c.peer_addr.ensures.asks
 
 pub returns-in-Connection-clause-asks : goal.returns-in-Connection-clause-asks
 returns-in-Connection-clause-asks g c = rw c.in-Connection.is c.ask_to_connect.ensures.asks

@@ -8,10 +8,10 @@ loop-answer-init g c = record { so_far = nothing_so_far _ _ _ _ _ c.requires.sta
 pub loop-answer-preserved : goal.loop-answer-preserved
 loop-answer-preserved g c =
     let so_far = c.loop-answer.invariant.so_far in
-    let made = rw c.in-Next.is at c.step.ensures.steps in
-    let quiet = rw c.in-Next.is at c.step.ensures.quiet in
-    let begun = rw c.in-Next.is at c.step.ensures.begun in
-    let stage_of = rw c.in-Next.is at c.step.ensures.stage in
+    let made = rw c.in-Next.is at c.step.ensures.makes.steps in
+    let quiet = rw c.in-Next.is at c.step.ensures.makes.quiet in
+    let begun = rw c.in-Next.is at c.step.ensures.makes.begun in
+    let stage_of = rw c.in-Next.is at c.step.ensures.makes.stage_of in
     record {
       so_far = next_step _ _ _ _ _ _ _ so_far c.step.new.stage c.step.new.self made quiet begun stage_of c.step.ensures.net;
       end = λ h may. end_on c.args.self.now.channel.ended c.loop-answer.self.channel.ended c.step.new.self.channel.ended c.args.self.now.channel.told c.loop-answer.self.channel.told (so_far.moved.moves.leads.goes.given h) (c.loop-answer.invariant.end h may) (c.step.ensures.end h may);
@@ -19,18 +19,18 @@ loop-answer-preserved g c =
 
 pub returns-in-Pending-clause-polls : goal.returns-in-Pending-clause-polls
 returns-in-Pending-clause-polls g c =
-    let made = rw c.in-Pending.is at c.step.ensures.steps in
+    let made = rw c.in-Pending.is at c.step.ensures.makes.steps in
     waits_step _ _ _ _ _ _ _ c.loop-answer.invariant.so_far c.step.new.stage c.step.new.self made
 
 pub returns-in-Pending-clause-begun : goal.returns-in-Pending-clause-begun
 returns-in-Pending-clause-begun g c = λ waits.
-    let made = rw c.in-Pending.is at c.step.ensures.steps in
-    let begun = rw c.in-Pending.is at c.step.ensures.begun in
+    let made = rw c.in-Pending.is at c.step.ensures.makes.steps in
+    let begun = rw c.in-Pending.is at c.step.ensures.makes.begun in
     begun_on _ _ _ _ _ _ _ c.loop-answer.invariant.so_far c.step.new.stage c.step.new.self made.0.moves begun
 
 pub returns-in-Done-clause-polls : goal.returns-in-Done-clause-polls
 returns-in-Done-clause-polls g c =
-    let made = rw c.in-Done.is at c.step.ensures.steps in
+    let made = rw c.in-Done.is at c.step.ensures.makes.steps in
     last_step _ _ _ _ _ _ _ c.loop-answer.invariant.so_far c.step.new.stage c.step.new.self c.in-Done.answer made
 
 pub returns-in-Pending-clause-rests : goal.returns-in-Pending-clause-rests

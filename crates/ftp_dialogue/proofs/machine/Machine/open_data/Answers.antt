@@ -2,9 +2,9 @@ use Rattle.std.proofs.Common.{ap, sym, subst, ◌∙◌}
 use Rattle.ftp_calls.specs.declared.call.Answer.TheVariants.{Unit}
 use Rattle.ftp_dialogue.specs.declared.state.State.{State}
 use Rattle.ftp_dialogue.specs.Dialogue.{Leaf}
-use Rattle.ftp_dialogue.proofs.Questioning.{fails_walks, found_walks, lacks_walks, waits_walks}
+use Rattle.ftp_dialogue.proofs.Questioning.{fails_there, found_there, lacks_memory_there, waits_there}
 use Rattle.ftp_dialogue.specs.Steps.Questions.{Continues, Fits, question_at}
-use Rattle.ftp_dialogue.proofs.machine.Machine.walk.Goals as goal
+use Rattle.ftp_dialogue.proofs.machine.Machine.open_data.Goals as goal
 
 pub after-reached-requires-clause-fits : goal.after-reached-requires-clause-fits
 after-reached-requires-clause-fits g c =
@@ -14,28 +14,28 @@ after-reached-requires-clause-fits g c =
     let F : State → Type 0 = λ state. Fits (question_at state c.args.opening_data) c.in-Found.found in
     subst F (sym same ∙ sym (ap (λ v. v.state) c.self-in-Found.view_is)) asks.0
 
-pub returns-in-Found-clause-walks : goal.returns-in-Found-clause-walks
-returns-in-Found-clause-walks g c = λ coding.
+pub returns-in-Found-clause-makes : goal.returns-in-Found-clause-makes
+returns-in-Found-clause-makes g c = λ coding.
     let question = c.question_of-question.ensures ∙ ap (λ v. question_at v.state c.args.opening_data) c.self.view_is in
     let asks = rw (c.in-Found.is, question) at c.ask.ensures.asks in
     let C : State → Type 0 = λ state. Continues coding c.args.call.now c.args.opening_data c.in-Found.found state c.after-reached.result in
     let continues = subst C (ap (λ v. v.state) c.self-in-Found.view_is) (c.after-reached.ensures coding) in
-    found_walks _ coding _ c.args.opening_data c.requires.opens c.in-Found.found _ _ c.args.self.now c.ask.new.self _ _ asks continues c.arrive.ensures.arrives
+    found_there _ coding _ c.args.opening_data c.requires.opens c.in-Found.found _ _ c.args.self.now c.ask.new.self _ _ asks continues c.arrive.ensures.arrives
 
-pub returns-in-Waits-clause-walks : goal.returns-in-Waits-clause-walks
-returns-in-Waits-clause-walks g c = λ coding.
+pub returns-in-Waits-clause-makes : goal.returns-in-Waits-clause-makes
+returns-in-Waits-clause-makes g c = λ coding.
     let question = c.question_of-question.ensures ∙ ap (λ v. question_at v.state c.args.opening_data) c.self.view_is in
     let asks = rw (c.in-Waits.is, question) at c.ask.ensures.asks in
-    rw c.go_to.ensures (waits_walks _ coding _ c.args.opening_data c.requires.opens c.args.self.now c.ask.new.self c.requires.way asks)
+    rw c.go_to.ensures (waits_there _ coding _ c.args.opening_data c.requires.opens c.args.self.now c.ask.new.self c.requires.way asks)
 
-pub returns-in-Failed-clause-walks : goal.returns-in-Failed-clause-walks
-returns-in-Failed-clause-walks g c = λ coding.
+pub returns-in-Failed-clause-makes : goal.returns-in-Failed-clause-makes
+returns-in-Failed-clause-makes g c = λ coding.
     let question = c.question_of-question.ensures ∙ ap (λ v. question_at v.state c.args.opening_data) c.self.view_is in
     let asks = rw (c.in-Failed.is, question) at c.ask.ensures.asks in
-    fails_walks _ coding _ c.args.opening_data c.requires.opens _ c.in-Failed.kind c.args.self.now c.ask.new.self asks
+    fails_there _ coding _ c.args.opening_data c.requires.opens _ c.in-Failed.kind c.args.self.now c.ask.new.self asks
 
-pub returns-in-NoMemory-clause-walks : goal.returns-in-NoMemory-clause-walks
-returns-in-NoMemory-clause-walks g c = λ coding.
+pub returns-in-NoMemory-clause-makes : goal.returns-in-NoMemory-clause-makes
+returns-in-NoMemory-clause-makes g c = λ coding.
     let question = c.question_of-question.ensures ∙ ap (λ v. question_at v.state c.args.opening_data) c.self.view_is in
     let asks = rw (c.in-NoMemory.is, question) at c.ask.ensures.asks in
-    rw (c.abort_dialogue.ensures, c.has_asked-begun.ensures) (lacks_walks _ coding _ c.args.opening_data c.requires.opens _ c.args.self.now c.ask.new.self c.requires.going asks)
+    rw (c.abort_dialogue.ensures, c.has_asked-begun.ensures) (lacks_memory_there _ coding _ c.args.opening_data c.requires.opens _ c.args.self.now c.ask.new.self c.requires.going asks)
