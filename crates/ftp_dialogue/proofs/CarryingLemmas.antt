@@ -20,8 +20,7 @@ use Rattle.ftp_calls.specs.declared.exchange.Turn.TheVariants.{First, Second, Pa
 use Rattle.ftp_calls.specs.Exchanges.{drains, finishes, is_local, is_read, local_row, negotiates, of_transfer, only_reads, reads, row_of}
 use Rattle.ftp_dialogue.specs.declared.model.NetOutcome.{NetOutcome}
 use Rattle.ftp_dialogue.specs.declared.stage.Stage.{Stage}
-use Rattle.ftp_dialogue.specs.declared.stage.Stage.TheVariants.{At, Saying, Hearing, Arming, Resyncing, OpeningData, Closing, Aborting, Transferring}
-use Rattle.ftp_dialogue.specs.declared.stage.Step.TheVariants.{Next, Pending}
+use Rattle.ftp_dialogue.specs.declared.stage.Stage.TheVariants.{At}
 use Rattle.ftp_dialogue.specs.declared.state.State.{State}
 use Rattle.ftp_dialogue.specs.Coding.{Coding}
 use Rattle.ftp_control.specs.Channel.{Channel}
@@ -30,21 +29,20 @@ use Rattle.ftp_dialogue.specs.declared.model.Played.TheVariants.{Done}
 use Rattle.ftp_dialogue.specs.declared.model.PlayState.{PlayState}
 use Rattle.ftp_dialogue.proofs.NetEvents.{net_record_parted, letting_beside}
 use Rattle.ftp_dialogue.specs.NetEvents.{NetEvent, NetEvents, MovementIs, Net, Parted, outcomes_of, traffic_of}
-use Rattle.ftp_dialogue.specs.Dialogue.{Tree, Move, Leaf, accepted, awaiting, carrying, concluded, dialogue, doing, entered, expected_of, from_turn, later, moved_answer, negotiating, opened_from, saying, set_to, told_of_close, with_left, closing_data}
+use Rattle.ftp_dialogue.specs.Dialogue.{Tree, Move, Leaf, accepted, awaiting, carrying, concluded, dialogue, doing, entered, expected_of, from_turn, later, moved_answer, negotiating, opened_from, saying, set_to, with_left, closing_data}
 use Rattle.ftp_dialogue.specs.Link.{Link}
 use Rattle.ftp_dialogue.specs.Play.{Refusal, Taken, Lacking, Failing, finally, leaving, play, play_call, play_unless, lacks, refusal, refused_if_failed, needs_data}
 use Rattle.ftp_dialogue.specs.Promises.{Aborts, Goes, IsFault, IsRefusal, IsRefused, IsSuccess, play_state, LeavesIf, Refuses, begun_by, lacks_of, refusal_of, IsApart}
 use Rattle.ftp_dialogue.specs.Resuming.{Modes, Resumes}
 use Rattle.ftp_dialogue.specs.Sound.{Transfers, left_behind}
 use Rattle.ftp_dialogue.specs.State.{SessionValue, LetsGo}
-use Rattle.std.specs.declared.io.ErrorKind.{ErrorKind}
-use Rattle.ftp_dialogue.specs.Steps.Moving.{Apart, CarriedOut, Carries, CarriesBy, CarriesOut, DoesRow, Ends, Made, Sets as SetsTo, MakesStep, answer_moved, moves_nothing, needs_memory, nothing_moved, state_moved}
+use Rattle.ftp_dialogue.specs.Steps.Moving.{Apart, CarriedOut, Carries, CarriesBy, CarriesOut, DoesRow, Ends, Made, Sets as SetsTo, answer_moved, moves_nothing, needs_memory, nothing_moved, state_moved}
 use Rattle.ftp_dialogue.specs.Steps.Polls.{MayPollAt}
 use Rattle.ftp_dialogue.specs.Steps.Stages.{MayAnswer, StageOf}
-use Rattle.ftp_dialogue.proofs.Sorts.{unheld_call, finishing_moves, finishing_no_read, local_finishes_none, local_opens_none, read_finishes_none, reply_ending}
+use Rattle.ftp_dialogue.proofs.Sorts.{unheld_call, finishing_moves, local_finishes_none, local_opens_none, read_finishes_none, reply_ending}
 use Rattle.ftp_calls.proofs.Openings.{read_opens_none}
 use Rattle.ftp_dialogue.proofs.Moving.{lacks_memory_first, leaf_ends, stays_put}
-use Rattle.ftp_dialogue.proofs.NegotiationLemmas.{moved_still, still_touched}
+use Rattle.ftp_dialogue.proofs.NegotiationLemmas.{moved_still}
 use Rattle.ftp_dialogue.specs.Link.{Beside}
 
 -- Refusals
@@ -108,14 +106,7 @@ may_go_on call (At (Active address offset)) v undrained of going = going
 may_go_on call (At (Restart offset)) v undrained of going = going
 may_go_on call (At (Closed close)) v undrained of going = going
 may_go_on call (At Aborted) v undrained of going = going
-may_go_on call (Saying line a) v undrained of going = going
-may_go_on call (Hearing a) v undrained of going = going
-may_go_on call (Arming turn offset) v undrained of going = going
-may_go_on call (Resyncing turn seeks) v undrained of going = going
-may_go_on call (OpeningData way) v undrained of going = going
-may_go_on call Closing v undrained of going = going
-may_go_on call (Aborting abort) v undrained of going = going
-may_go_on call (Transferring fetching) v undrained of going = going
+may_go_on call other v undrained of going = going
 
 -- Where a call begins
 
@@ -186,14 +177,11 @@ read_apart coding call state read =
         let two = both (only_reads e.ending) (is_none e.says) is in
         saying_none e (reply_ending e.ending two.0) e.says two.1
     row (Arms offset) is = tt
-    row Resyncs is = let clash : false ≡ true = is in cc
-    row (Sets setting) is = let clash : false ≡ true = is in cc
-    row (Moves moves) is = let clash : false ≡ true = is in cc
+    row other is = let clash : false ≡ true = is in cc
 
 pub carrying_is : (moves : Movement) (state : State) → carrying moves state ≡ cond (moves_nothing moves) (Leaf (nothing_moved moves) state) (Move moves (λ came. Leaf (answer_moved moves came) (state_moved moves state)))
 carrying_is (movement.Read most) state = refl
-carrying_is (movement.Write bytes) state = refl
-carrying_is movement.Close state = refl
+carrying_is other state = refl
 
 pub carrying_resumes : (modes : Modes) (kept : List ℕ) (moves : Movement) (state : State) → Resumes modes kept (carrying moves state)
 carrying_resumes modes kept moves state =
@@ -276,29 +264,6 @@ pub sets_apart : (setting : Setting) (old new : SessionValue) (answer : Answer) 
 sets_apart setting old new answer (inl made) = ap (λ v. v.channel) made.1
 sets_apart setting old new answer (inr lacks) = ap (λ v. v.channel) lacks.1
 
--- The end of a transfer
-
-pub closes_data : (link : Link) (coding : Coding) (call : Call) (old : SessionValue) (net' : Net) (outcome : NetOutcome) → finishes call ≡ true → (link.tells → MovementIs movement.Close outcome old.net net') → MakesStep link coding call Closing (At (Closed (told_of_close old.state.uploads outcome))) old (record old { net = net' }) Next
-closes_data link coding call old net' outcome ends tie =
-    let next : NetOutcome → Tree = λ came. from_turn coding call (Closed (told_of_close old.state.uploads came)) old.state in
-    let still = moved_still link old net' movement.Close outcome tie next in
-    record {
-      steps = still.advances;
-      quiet = λ none. record { still = still; begun = refl; speaks = λ speaks. absurd speaks; read = λ read. (let clash : true ≡ false = sym read ∙ finishing_no_read call ends in cc) };
-      begun = (λ has. (let clash : false ≡ true = has in cc), λ none. (refl, still_touched link _ _ old (record old { net = net' }) still));
-      answers = tt;
-      fewer = λ is. omega arith;
-      stage_of = ends;
-    }
-
--- the same of a session that is known by equations
-pub closed_data : (link : Link) (coding : Coding) (call : Call) (old new : SessionValue) (outcome : NetOutcome) (told : Option ErrorKind) (stage' : Stage) → finishes call ≡ true → new ≡ record old { net = new.net } → (link.tells → MovementIs movement.Close outcome old.net new.net) → told ≡ told_of_close new.state.uploads outcome → stage' ≡ At (Closed told) → MakesStep link coding call Closing stage' old new Next
-closed_data link coding call old new outcome told stage' ends beside tie told_is at =
-    let V : SessionValue → Type 0 = λ v. MakesStep link coding call Closing stage' old v Next in
-    let S : Stage → Type 0 = λ s. MakesStep link coding call Closing s old (record old { net = new.net }) Next in
-    let is : stage' ≡ At (Closed (told_of_close old.state.uploads outcome)) = at ∙ ap (λ t. At (Closed t)) (told_is ∙ ap (λ v. told_of_close v.state.uploads outcome) beside) in
-    subst V (sym beside) (subst S (sym is) (closes_data link coding call old new.net outcome ends tie))
-
 -- What is carried out
 
 did_row : (tells : Type 0) (call : Call) (old mid last' last new : SessionValue) (answer' answer : Answer) → refusal_of call old ≡ Taken → mid ≡ old → DoesRow (row_of call First) tells mid last' answer' → last ≡ last' → answer ≡ answer' → LetsGo tells last new → CarriesOut tells call old new answer
@@ -337,25 +302,19 @@ left_so tells outcome counts old view new is left beside tie =
 
 -- a row that was carried out is played
 row_done : (link : Link) (coding : Coding) (r : Row) (later : State → Tree) (old new : SessionValue) (answer : Answer) → DoesRow r link.tells old new answer → Ends link (doing coding r old.state later) answer old new ⊎ Aborts link false (doing coding r old.state later) answer old new
-row_done link coding (Exchanges e) later old new answer does = absurd does
-row_done link coding (Arms offset) later old new answer does = absurd does
-row_done link coding Resyncs later old new answer does = absurd does
 row_done link coding (Sets setting) later old new answer does = set_ends link setting old new answer does
 row_done link coding (Moves moves) later old new answer does = carried_ends link moves old new answer does
+row_done link coding other later old new answer does = absurd does
 
 row_apart : (tells : Type 0) (r : Row) (old new : SessionValue) (answer : Answer) → DoesRow r tells old new answer → new.channel ≡ old.channel
-row_apart tells (Exchanges e) old new answer does = absurd does
-row_apart tells (Arms offset) old new answer does = absurd does
-row_apart tells Resyncs old new answer does = absurd does
 row_apart tells (Sets setting) old new answer does = sets_apart setting old new answer does
 row_apart tells (Moves moves) old new answer does = carries_apart tells moves old new answer does
+row_apart tells other old new answer does = absurd does
 
 row_local : (tells : Type 0) (r : Row) (old new : SessionValue) (answer : Answer) → DoesRow r tells old new answer → local_row r ≡ true
-row_local tells (Exchanges e) old new answer does = absurd does
-row_local tells (Arms offset) old new answer does = absurd does
-row_local tells Resyncs old new answer does = absurd does
 row_local tells (Sets setting) old new answer does = refl
 row_local tells (Moves moves) old new answer does = refl
+row_local tells other old new answer does = absurd does
 
 -- what it answers
 carried_answer : (tells : Type 0) (moves : Movement) (old new : SessionValue) (answer : Answer) → Carries tells moves old new answer → IsApart answer
@@ -364,8 +323,7 @@ carried_answer tells moves old new answer (inr (inl none)) = (let P : Answer →
   where
     nothing : (m : Movement) → IsApart (nothing_moved m)
     nothing (movement.Read most) = tt
-    nothing (movement.Write bytes) = tt
-    nothing movement.Close = tt
+    nothing other = tt
 carried_answer tells moves old new answer (inr (inr lacks)) = (let P : Answer → Type 0 = IsApart in subst P (sym lacks.1) (inl refl))
 
 -- a transfer that is left answers nothing, and is left
@@ -379,11 +337,9 @@ set_answer setting old new answer (inl made) = (let P : Answer → Type 0 = IsAp
 set_answer setting old new answer (inr lacks) = (let P : Answer → Type 0 = IsApart in subst P (sym lacks.0) (inl refl))
 
 pub row_answer : (tells : Type 0) (r : Row) (old new : SessionValue) (answer : Answer) → DoesRow r tells old new answer → IsApart answer
-row_answer tells (Exchanges e) old new answer does = absurd does
-row_answer tells (Arms offset) old new answer does = absurd does
-row_answer tells Resyncs old new answer does = absurd does
 row_answer tells (Sets setting) old new answer does = set_answer setting old new answer does
 row_answer tells (Moves moves) old new answer does = carried_answer tells moves old new answer does
+row_answer tells other old new answer does = absurd does
 
 pub carried_apart : (tells : Type 0) (call : Call) (old new : SessionValue) (answer : Answer) → CarriedOut tells call old new answer → new.channel ≡ old.channel
 carried_apart tells call old new answer made = ap (λ v. v.channel) (letting_beside tells made.last new made.lets_go) ∙ row_apart tells (row_of call First) old made.last answer made.does

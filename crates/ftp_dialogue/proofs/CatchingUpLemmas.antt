@@ -13,10 +13,10 @@ use Rattle.ftp_control.specs.Channel.{Channel}
 use Rattle.ftp_control.specs.Saying.{SaysLine, due}
 use Rattle.ftp_calls.specs.Exchanges.{draining_row, drains, drains_first, is_draining, is_finishing, is_local, moving_row, of_transfer, row_of}
 use Rattle.ftp_calls.specs.declared.exchange.Row.{Row}
-use Rattle.ftp_calls.specs.declared.exchange.Row.TheVariants.{Exchanges, Arms, Resyncs, Sets, Moves}
+use Rattle.ftp_calls.specs.declared.exchange.Row.TheVariants.{Exchanges, Arms}
 use Rattle.ftp_calls.specs.declared.exchange.Turn.TheVariants.{First}
 use Rattle.ftp_calls.specs.declared.call.Call.{Call}
-use Rattle.ftp_dialogue.specs.CatchingUp.{After, CatchesUp, Flushes, SendsTail, InStepIf, MakesThen, CatchesUpReadIf, PollsReadInStep, ReadsDue, ReadsIf, PlaysInStep, TellsFault, ReadsThen, fault_told, flushing, is_behind, is_caught_up, is_late, is_plain_read, opens_beside, told_by, told_of_line}
+use Rattle.ftp_dialogue.specs.CatchingUp.{After, CatchesUp, Flushes, SendsTail, InStepIf, MakesThen, CatchesUpReadIf, PollsReadInStep, ReadsDue, ReadsIf, PlaysInStep, TellsFault, ReadsThen, fault_told, flushing, reads_dropped_first, is_caught_up, has_dropped_replies, is_plain_read, opens_beside, told_by, told_of_line}
 use Rattle.ftp_dialogue.specs.Coding.{Coding}
 use Rattle.ftp_dialogue.specs.NetEvents.{Net}
 use Rattle.ftp_dialogue.specs.Dialogue.{Expected, Tree, Say, Leaf, expecting}
@@ -176,60 +176,60 @@ reads_no_more plain link (suc left) v none = let clash : ⊥ = omega (arith, non
 
 -- a call that reads replies first
 
-pub behind_late : (call : Call) (v : SessionValue) → is_behind call v ≡ true → is_late v ≡ true
-behind_late call v behind = go (is_late v) refl behind
+pub behind_late : (call : Call) (v : SessionValue) → reads_dropped_first call v ≡ true → has_dropped_replies v ≡ true
+behind_late call v behind = go (has_dropped_replies v) refl behind
   where
-    go : (b : Bool) → is_late v ≡ b → b && (drains_first call || drains call) && not (opens_beside call v.state.counts.owed) ≡ true → is_late v ≡ true
+    go : (b : Bool) → has_dropped_replies v ≡ b → b && (drains_first call || drains call) && not (opens_beside call v.state.counts.owed) ≡ true → has_dropped_replies v ≡ true
     go true is behind = is
     go false is behind = let clash : false ≡ true = behind in cc
 
-pub late_going : (v : SessionValue) → is_late v ≡ true → v.channel.failed ≡ false
+pub late_going : (v : SessionValue) → has_dropped_replies v ≡ true → v.channel.failed ≡ false
 late_going v late = go v.channel.failed refl late
   where
     go : (b : Bool) → v.channel.failed ≡ b → not (b || (v.state.unanswered == 0)) ≡ true → v.channel.failed ≡ false
     go true is late = let clash : false ≡ true = late in cc
     go false is late = is
 
-pub behind_going : (call : Call) (v : SessionValue) → is_behind call v ≡ true → v.channel.failed ≡ false
+pub behind_going : (call : Call) (v : SessionValue) → reads_dropped_first call v ≡ true → v.channel.failed ≡ false
 behind_going call v behind = late_going v (behind_late call v behind)
 
 module _ (link : Link) (plain ends : Bool) (Makes : SessionValue → SessionValue → Answer → Type 0) (call : Call) (old middle new : SessionValue) (answer : Answer) where
   -- none are due
-  pub in_step : is_behind call old ≡ false → Makes old new answer → InStepIf (is_behind call old) link plain ends Makes old new answer
+  pub in_step : reads_dropped_first call old ≡ false → Makes old new answer → InStepIf (reads_dropped_first call old) link plain ends Makes old new answer
   in_step none makes =
       let P : Bool → Type 0 = λ b. InStepIf b link plain ends Makes old new answer in
       subst P (sym none) makes
 
-  first : (fault : Option FtpError) (result : Poll (Option FtpError)) → is_behind call old ≡ true → CatchesUp link plain old middle result → result ≡ Ready fault → MakesThen fault ends Makes middle new answer → InStepIf (is_behind call old) link plain ends Makes old new answer
+  first : (fault : Option FtpError) (result : Poll (Option FtpError)) → reads_dropped_first call old ≡ true → CatchesUp link plain old middle result → result ≡ Ready fault → MakesThen fault ends Makes middle new answer → InStepIf (reads_dropped_first call old) link plain ends Makes old new answer
   first fault result behind catches is then =
       let P : Bool → Type 0 = λ b. InStepIf b link plain ends Makes old new answer in
       let C : Poll (Option FtpError) → Type 0 = λ r. CatchesUp link plain old middle r in
       subst P (sym behind) (record { middle = middle; fault = fault; catches_up = subst C is catches; then_makes = then })
 
   -- an error of them is the answer
-  pub step_fails : (fault : FtpError) (result : Poll (Option FtpError)) → is_behind call old ≡ true → CatchesUp link plain old middle result → result ≡ Ready (Some fault) → answer ≡ Fault fault → new ≡ middle → InStepIf (is_behind call old) link plain ends Makes old new answer
+  pub step_fails : (fault : FtpError) (result : Poll (Option FtpError)) → reads_dropped_first call old ≡ true → CatchesUp link plain old middle result → result ≡ Ready (Some fault) → answer ≡ Fault fault → new ≡ middle → InStepIf (reads_dropped_first call old) link plain ends Makes old new answer
   step_fails fault result behind catches is told same = first (Some fault) result behind catches is (told, same)
 
   -- they were read, and so was the last reply of a transfer that was left
-  pub step_ends : (result : Poll (Option FtpError)) → is_behind call old ≡ true → CatchesUp link plain old middle result → result ≡ Ready None → ends ≡ true → answer ≡ Nothing → new ≡ middle → InStepIf (is_behind call old) link plain ends Makes old new answer
+  pub step_ends : (result : Poll (Option FtpError)) → reads_dropped_first call old ≡ true → CatchesUp link plain old middle result → result ≡ Ready None → ends ≡ true → answer ≡ Nothing → new ≡ middle → InStepIf (reads_dropped_first call old) link plain ends Makes old new answer
   step_ends result behind catches is over told same =
       let E : Bool → Type 0 = λ e. MakesThen None e Makes middle new answer in
       first None result behind catches is (subst E (sym over) (told, same))
 
   -- they were read, and the call is made
-  pub step_goes_on : (result : Poll (Option FtpError)) → is_behind call old ≡ true → CatchesUp link plain old middle result → result ≡ Ready None → ends ≡ false → Makes middle new answer → InStepIf (is_behind call old) link plain ends Makes old new answer
+  pub step_goes_on : (result : Poll (Option FtpError)) → reads_dropped_first call old ≡ true → CatchesUp link plain old middle result → result ≡ Ready None → ends ≡ false → Makes middle new answer → InStepIf (reads_dropped_first call old) link plain ends Makes old new answer
   step_goes_on result behind catches is more makes =
       let E : Bool → Type 0 = λ e. MakesThen None e Makes middle new answer in
       first None result behind catches is (subst E (sym more) makes)
 
 -- a polled read, after what is due before it
 module _ (link : Link) (coding : Coding) (codes : Expected) (old middle new : SessionValue) (caught : Poll (Option FtpError)) (result : Poll (Result Response FtpError)) where
-  pub reads_at_once : is_late old ≡ false → PollsRead link coding codes old new result → PollsReadInStep link coding codes old new result
+  pub reads_at_once : has_dropped_replies old ≡ false → PollsRead link coding codes old new result → PollsReadInStep link coding codes old new result
   reads_at_once none reads =
       let P : Bool → Type 0 = λ b. CatchesUpReadIf b link coding codes old new result in
       record { reads = subst P (sym none) reads }
 
-  pub reads_caught_up : (told : Poll (Option FtpError)) → is_late old ≡ true → CatchesUp link true old middle caught → caught ≡ told → ReadsThen told link coding codes middle new result → PollsReadInStep link coding codes old new result
+  pub reads_caught_up : (told : Poll (Option FtpError)) → has_dropped_replies old ≡ true → CatchesUp link true old middle caught → caught ≡ told → ReadsThen told link coding codes middle new result → PollsReadInStep link coding codes old new result
   reads_caught_up told late catches is then =
       let P : Bool → Type 0 = λ b. CatchesUpReadIf b link coding codes old new result in
       let T : Poll (Option FtpError) → Type 0 = λ f. ReadsThen f link coding codes middle new result in
@@ -243,9 +243,7 @@ row_undrained (Exchanges exchange) none = go (is_finishing exchange.ending) none
     go true none = let clash : true ≡ false = none in cc
     go false none = none
 row_undrained (Arms offset) none = refl
-row_undrained Resyncs none = refl
-row_undrained (Sets setting) none = refl
-row_undrained (Moves movement) none = refl
+row_undrained other none = refl
 
 pub undrained : (call : Call) → of_transfer call ≡ false → drains call ≡ false
 undrained call none = row_undrained (row_of call First) none
@@ -270,17 +268,17 @@ step_map true link plain ends Makes Makes' old new answer map first = record { m
     go None true then = then
     go None false then = map first.middle new answer then
 
-pub plays_in_step : (link : Link) (coding : Coding) (call : Call) (old new : SessionValue) (answer : Answer) → InStepIf (is_behind call old) (unasked link) (is_plain_read call) (drains call) (MadeDrained link coding call) old new answer → PlaysInStep link coding call old new answer
-plays_in_step link coding call old new answer made = record { plays = step_map (is_behind call old) (unasked link) (is_plain_read call) (drains call) (MadeDrained link coding call) (Plays link coding call) old new answer (λ v w a. drained_plays link coding call v w a) made }
+pub plays_in_step : (link : Link) (coding : Coding) (call : Call) (old new : SessionValue) (answer : Answer) → InStepIf (reads_dropped_first call old) (unasked link) (is_plain_read call) (drains call) (MadeDrained link coding call) old new answer → PlaysInStep link coding call old new answer
+plays_in_step link coding call old new answer made = record { plays = step_map (reads_dropped_first call old) (unasked link) (is_plain_read call) (drains call) (MadeDrained link coding call) (Plays link coding call) old new answer (λ v w a. drained_plays link coding call v w a) made }
 
 -- a call whose arguments found no memory
 withheld_caught : (link : Link) (plain : Bool) (v : SessionValue) → CatchesUp link plain v v (Ready (Some OutOfMemory))
 withheld_caught link plain v = record { flushed = v; flush = Ready (Some OutOfMemory); flushes = record { sends = inr (lacks_memory_first link (flushing v.state) v); beside = refl }; then_reads = (refl, refl) }
 
 pub withheld_in_step : (link : Link) (coding : Coding) (call : Call) (v : SessionValue) → is_local call ≡ false → of_transfer call ≡ false → PlaysInStep link coding call v v (Fault (withheld v))
-withheld_in_step link coding call v abroad none = record { plays = go (is_behind call v) refl }
+withheld_in_step link coding call v abroad none = record { plays = go (reads_dropped_first call v) refl }
   where
-    go : (b : Bool) → is_behind call v ≡ b → InStepIf b (unasked link) (is_plain_read call) (drains call) (Plays link coding call) v v (Fault (withheld v))
+    go : (b : Bool) → reads_dropped_first call v ≡ b → InStepIf b (unasked link) (is_plain_read call) (drains call) (Plays link coding call) v v (Fault (withheld v))
     go false is = withheld_plays link coding call v abroad none
     go true is =
         let F : Bool → FtpError = λ b. cond b SessionFailed OutOfMemory in

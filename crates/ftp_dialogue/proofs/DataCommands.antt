@@ -29,7 +29,7 @@ use Rattle.ftp_calls.specs.declared.exchange.Fetch.TheVariants.{Whole as WholeFi
 use Rattle.ftp_calls.specs.declared.exchange.Task.{Task}
 use Rattle.ftp_calls.specs.declared.exchange.Task.TheVariants as tasks
 use Rattle.ftp_calls.specs.declared.exchange.Row.{Row}
-use Rattle.ftp_calls.specs.declared.exchange.Row.TheVariants.{Exchanges, Arms, Resyncs, Sets, Moves}
+use Rattle.ftp_calls.specs.declared.exchange.Row.TheVariants.{Exchanges}
 use Rattle.ftp_calls.specs.declared.exchange.Movement.{Movement}
 use Rattle.ftp_calls.specs.declared.exchange.Movement.TheVariants as movement
 use Rattle.ftp_calls.specs.declared.exchange.Turn.{Turn}
@@ -58,7 +58,7 @@ use Rattle.ftp_dialogue.specs.declared.model.Played.TheVariants.{Done, Pending}
 use Rattle.ftp_dialogue.specs.declared.model.PlayState.{PlayState}
 use Rattle.ftp_dialogue.specs.declared.model.Wait.TheVariants as wait
 use Rattle.ftp_dialogue.specs.declared.state.Owed.{Owed}
-use Rattle.ftp_dialogue.specs.declared.state.Owed.TheVariants.{Nothing as NoneOwed, Live, Left}
+use Rattle.ftp_dialogue.specs.declared.state.Owed.TheVariants.{Nothing as NoneOwed, Live}
 use Rattle.ftp_dialogue.specs.declared.state.State.{State}
 use Rattle.ftp_base.specs.declared.status.Status.TheVariants.{ExtendedPassiveMode}
 
@@ -140,9 +140,7 @@ module _ (peer : SocketAddr) (Sort : Request → Type 0) (state : State) (admits
 
   opening_keeps : (opened : Tree) → Keeps peer Sort opened → (m : Mode) → Keeps peer Sort (opening m opened state)
   opening_keeps opened keeps mode.Active = accepting_keeps (securing opened state) (securing_keeps opened keeps) peer strangers
-  opening_keeps opened keeps mode.Passive = securing_keeps opened keeps
-  opening_keeps opened keeps mode.ExtendedPassive = securing_keeps opened keeps
-  opening_keeps opened keeps mode.Automatic = securing_keeps opened keeps
+  opening_keeps opened keeps other = securing_keeps opened keeps
 
   -- a whole data connection is read
   closing_data_keeps : (form : Fetch) (answer : Answer) → Keeps peer Sort (fetch_closing_data form answer state)
@@ -164,11 +162,7 @@ module _ (peer : SocketAddr) (Sort : Request → Type 0) (state : State) (admits
       grown_keeps more false = closing_data_keeps form (too_long form)
   data_keeps coding form all on keeps (came.Failed kind) = closing_data_keeps form (unfetched form kind)
   data_keeps coding form all on keeps came.NoMemory = closing_data_keeps form (Fault OutOfMemory)
-  data_keeps coding form all on keeps (came.Answered outcome) = closing_data_keeps form (too_long form)
-  data_keeps coding form all on keeps (came.Built fault) = closing_data_keeps form (too_long form)
-  data_keeps coding form all on keeps (came.Secured fault) = closing_data_keeps form (too_long form)
-  data_keeps coding form all on keeps (came.Wrote count) = closing_data_keeps form (too_long form)
-  data_keeps coding form all on keeps came.Closed = closing_data_keeps form (too_long form)
+  data_keeps coding form all on keeps other = closing_data_keeps form (too_long form)
 
   gathering_keeps : (coding : Coding) (form : Fetch) (left : ℕ) (all : List ℕ) → Keeps peer Sort (gathering coding form left all state)
   unfolding gathering
@@ -179,13 +173,7 @@ module _ (peer : SocketAddr) (Sort : Request → Type 0) (state : State) (admits
   module _ (rest : List ℕ) (on : List ℕ → Tree) (keeps : (more : List ℕ) → Keeps peer Sort (on more)) where
     sent_keeps : (outcome : NetOutcome) → Keeps peer Sort (on_sent rest on state outcome)
     sent_keeps (came.Wrote count) = keeps (drop count rest)
-    sent_keeps (came.Failed kind) = none
-    sent_keeps came.NoMemory = none
-    sent_keeps (came.Answered outcome) = none
-    sent_keeps (came.Built fault) = none
-    sent_keeps (came.Secured fault) = none
-    sent_keeps (came.Read bytes) = none
-    sent_keeps came.Closed = none
+    sent_keeps other = none
 
   sending_keeps : (left total : ℕ) (rest : List ℕ) → Keeps peer Sort (sending left total rest state)
   unfolding sending
@@ -219,10 +207,7 @@ module _ (peer : SocketAddr) (Sort : Request → Type 0) (state : State) (admits
 
     row_keeps : (row : Row) → opens row ≡ true → Keeps peer Sort (doing coding row state after)
     row_keeps (Exchanges exchange) is = saying_keeps coding exchange.says (awaiting coding (expected_of exchange.hears) exchange.ending state after) (ending_keeps exchange.ending is)
-    row_keeps (Arms offset) is = let clash : false ≡ true = is in cc
-    row_keeps Resyncs is = let clash : false ≡ true = is in cc
-    row_keeps (Sets setting) is = let clash : false ≡ true = is in cc
-    row_keeps (Moves moves) is = let clash : false ≡ true = is in cc
+    row_keeps other is = let clash : false ≡ true = is in cc
 
   module _ (coding : Coding) (call : Call) (negotiates_is : negotiates call ≡ true) (offset : ℕ) where
     last_keeps : Keeps peer Sort (last_turn coding call state)
@@ -322,8 +307,7 @@ module _ (Sort : Request → Type 0) where
   -- what is done on the data connection is no request
   moved_asks : (moves : Movement) (outcome : NetOutcome) (d : NetRecord) → (moved moves outcome d).asked ≡ d.asked
   moved_asks (movement.Read most) outcome d = refl
-  moved_asks (movement.Write bytes) outcome d = refl
-  moved_asks movement.Close outcome d = refl
+  moved_asks other outcome d = refl
 
   -- a request waits for its outcome
   abbrev waiting : Request → PlayState → Played
@@ -416,8 +400,7 @@ module _ (Sort : Request → Type 0) where
     where
       go : (owed : Owed) → Reaches Sort before (Done answer (record s { net_record = settled owed s.net_record }))
       go NoneOwed = record { none = r.none; more = r.more; asked = r.asked; sorted = r.sorted }
-      go (Live number) = record { none = r.none; more = r.more; asked = r.asked; sorted = r.sorted }
-      go (Left number) = record { none = r.none; more = r.more; asked = r.asked; sorted = r.sorted }
+      go other = record { none = r.none; more = r.more; asked = r.asked; sorted = r.sorted }
   finally_reaches before (Pending how s) r = r
 
 -- What a call results in

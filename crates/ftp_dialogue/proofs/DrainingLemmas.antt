@@ -5,9 +5,9 @@ use Rattle.ftp_calls.specs.declared.call.Answer.TheVariants as answers
 use Rattle.ftp_calls.specs.declared.call.Call.{Call}
 use Rattle.ftp_calls.specs.declared.call.Call.TheVariants.{Drain}
 use Rattle.ftp_calls.specs.declared.exchange.Ending.{Ending}
-use Rattle.ftp_calls.specs.declared.exchange.Ending.TheVariants.{Done, GivesReply, TakesReply, Greets, GivesPath, GivesSecondLine, GivesTime, GivesSize, GivesFeatures, SetsText, GoesOn, Continues, GivesAddress, GivesPort, Opens, Performs, Finishes, Drains, Stops}
+use Rattle.ftp_calls.specs.declared.exchange.Ending.TheVariants.{Finishes, Stops}
 use Rattle.ftp_calls.specs.declared.exchange.Row.{Row}
-use Rattle.ftp_calls.specs.declared.exchange.Row.TheVariants.{Exchanges, Arms, Resyncs, Sets, Moves}
+use Rattle.ftp_calls.specs.declared.exchange.Row.TheVariants.{Exchanges, Sets, Moves}
 use Rattle.ftp_calls.specs.declared.exchange.Turn.TheVariants.{First}
 use Rattle.ftp_calls.specs.Exchanges.{drained_row, drains_first, finishes, finishing_row, follows_reply, is_finishing, is_local, local_row, negotiates, row_of}
 use Rattle.ftp_dialogue.specs.Coding.{Coding}
@@ -31,11 +31,9 @@ pub local_first : (call : Call) → is_local call ≡ true → drains_first call
 local_first call local = go (row_of call First) local
   where
     go : (row : Row) → local_row row ≡ true → drained_row row ≡ false
-    go (Exchanges exchange) is = let clash : false ≡ true = is in cc
-    go (Arms offset) is = let clash : false ≡ true = is in cc
-    go Resyncs is = let clash : false ≡ true = is in cc
     go (Sets setting) is = refl
     go (Moves movement) is = refl
+    go other is = let clash : false ≡ true = is in cc
 
 -- nothing is due before such a call
 pub not_first : (call : Call) (failed : Bool) (owed : Owed) → drains_first call ≡ false → is_due call failed owed ≡ false
@@ -56,33 +54,14 @@ failed_undue call v failed = ap (λ f. is_due call f v.state.counts.owed) failed
 finishing_follows : (ending : Ending) → is_finishing ending ≡ true → follows_reply ending ≡ false
 finishing_follows (Finishes close) is = refl
 finishing_follows Stops is = refl
-finishing_follows Done is = let clash : false ≡ true = is in cc
-finishing_follows GivesReply is = let clash : false ≡ true = is in cc
-finishing_follows TakesReply is = let clash : false ≡ true = is in cc
-finishing_follows Greets is = let clash : false ≡ true = is in cc
-finishing_follows GivesPath is = let clash : false ≡ true = is in cc
-finishing_follows GivesSecondLine is = let clash : false ≡ true = is in cc
-finishing_follows GivesTime is = let clash : false ≡ true = is in cc
-finishing_follows GivesSize is = let clash : false ≡ true = is in cc
-finishing_follows GivesFeatures is = let clash : false ≡ true = is in cc
-finishing_follows (SetsText text) is = let clash : false ≡ true = is in cc
-finishing_follows (GoesOn status) is = let clash : false ≡ true = is in cc
-finishing_follows Continues is = let clash : false ≡ true = is in cc
-finishing_follows GivesAddress is = let clash : false ≡ true = is in cc
-finishing_follows (GivesPort tries) is = let clash : false ≡ true = is in cc
-finishing_follows (Opens replies) is = let clash : false ≡ true = is in cc
-finishing_follows (Performs task) is = let clash : false ≡ true = is in cc
-finishing_follows Drains is = let clash : false ≡ true = is in cc
+finishing_follows other is = let clash : false ≡ true = is in cc
 
 pub finishes_first : (call : Call) → finishes call ≡ true → drains_first call ≡ false
 finishes_first call is = go (row_of call First) is
   where
     go : (row : Row) → finishing_row row ≡ true → drained_row row ≡ false
     go (Exchanges exchange) is = finishing_follows exchange.ending is
-    go (Arms offset) is = let clash : false ≡ true = is in cc
-    go Resyncs is = let clash : false ≡ true = is in cc
-    go (Sets setting) is = let clash : false ≡ true = is in cc
-    go (Moves movement) is = let clash : false ≡ true = is in cc
+    go other is = let clash : false ≡ true = is in cc
 
 -- nothing becomes due while a call is under way
 pub undue_on : (call : Call) (stage : Stage) (v w : SessionValue) → w.state ≡ entered_state call stage v.state → w.channel.failed ≡ v.channel.failed → due_of call v ≡ false → due_of call w ≡ false
@@ -133,18 +112,7 @@ taken_unrefused tells call v w answer taken refused =
 -- a call that gives nothing gives this
 pub unit_is : (answer : Answer) → is_unit answer ≡ true → answer ≡ answers.Unit
 unit_is answers.Unit is = refl
-unit_is (answers.Reply reply) is = let clash : false ≡ true = is in cc
-unit_is (answers.Text text) is = let clash : false ≡ true = is in cc
-unit_is (answers.Time time) is = let clash : false ≡ true = is in cc
-unit_is (answers.Size size) is = let clash : false ≡ true = is in cc
-unit_is (answers.Features features) is = let clash : false ≡ true = is in cc
-unit_is answers.Opened is = let clash : false ≡ true = is in cc
-unit_is (answers.OpenedWith reply) is = let clash : false ≡ true = is in cc
-unit_is (answers.Bytes bytes) is = let clash : false ≡ true = is in cc
-unit_is (answers.Count count) is = let clash : false ≡ true = is in cc
-unit_is (answers.Lines lines) is = let clash : false ≡ true = is in cc
-unit_is answers.NoTransfer is = let clash : false ≡ true = is in cc
-unit_is (answers.Fault fault) is = let clash : false ≡ true = is in cc
+unit_is other is = let clash : false ≡ true = is in cc
 
 -- what goes on from where a call begins goes on from before it
 pub goes_from : (link : Link) (came : List ℕ) (answered : List NetEvent) (call : Call) (old new : SessionValue) → Goes link came answered (begun_by call old) new → Goes link came answered old new

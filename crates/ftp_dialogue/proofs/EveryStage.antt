@@ -32,12 +32,12 @@ use Rattle.ftp_dialogue.specs.Dialogue.{Tree, Leaf, aborting, accepted, after_fa
 use Rattle.ftp_dialogue.specs.Promises.{IsFault, answer_of}
 use Rattle.ftp_dialogue.specs.Sound.{cannot_open, some_live}
 use Rattle.ftp_dialogue.specs.Steps.Polls.{StageIn, entered_tree, is_first}
-use Rattle.ftp_dialogue.specs.Steps.Stages.{AskingOf, FetchOf, MayGive, MayPerform, OpeningOf, StageOf, TurnOf, WayOf, abort_left, asking_of, awaited, fetch_left, opened_by, remaining, resync_left, way_of}
+use Rattle.ftp_dialogue.specs.Steps.Stages.{AskingOf, FetchOf, MayGive, MayPerform, OpeningOf, RecoveryOf, StageOf, TurnOf, WayOf, asking_of, awaited, fetch_left, opened_by, recovered, recovering, remaining, way_of}
 use Rattle.ftp_dialogue.specs.Within.{IsOfBytes, MayHear}
 use Rattle.ftp_dialogue.specs.declared.model.NetOutcome.{NetOutcome}
 use Rattle.ftp_dialogue.specs.declared.model.NetOutcome.TheVariants as came
-use Rattle.ftp_dialogue.specs.declared.stage.Aborting.{Aborting as Abort}
-use Rattle.ftp_dialogue.specs.declared.stage.Aborting.TheVariants as abort
+use Rattle.ftp_dialogue.specs.declared.stage.AfterClose.TheVariants.{Finishes, Aborts, Fetched as FetchedAll}
+use Rattle.ftp_dialogue.specs.declared.stage.AfterLine.TheVariants.{Hears, Recovers}
 use Rattle.ftp_dialogue.specs.declared.stage.Asking.{Asking as Asked}
 use Rattle.ftp_dialogue.specs.declared.stage.Asking.TheVariants as asks
 use Rattle.ftp_dialogue.specs.declared.stage.Awaits.{Awaits}
@@ -45,10 +45,10 @@ use Rattle.ftp_dialogue.specs.declared.stage.Opened.{Opened as Opening}
 use Rattle.ftp_dialogue.specs.declared.stage.Opened.TheVariants as opened
 use Rattle.ftp_dialogue.specs.declared.stage.OpeningData.{OpeningData as Way}
 use Rattle.ftp_dialogue.specs.declared.stage.OpeningData.TheVariants as way
-use Rattle.ftp_dialogue.specs.declared.stage.Resyncing.{Resyncing as Resync}
-use Rattle.ftp_dialogue.specs.declared.stage.Resyncing.TheVariants as resync
+use Rattle.ftp_dialogue.specs.declared.stage.Recovery.{Recovery}
+use Rattle.ftp_dialogue.specs.declared.stage.Recovery.TheVariants.{Abort, Resync}
 use Rattle.ftp_dialogue.specs.declared.stage.Stage.{Stage}
-use Rattle.ftp_dialogue.specs.declared.stage.Stage.TheVariants.{At, Saying, Hearing, Arming, Resyncing, OpeningData, Closing, Aborting, Transferring}
+use Rattle.ftp_dialogue.specs.declared.stage.Stage.TheVariants.{At, Composing, Saying, Hearing, Seeking, SettingOffset, OpeningData, Transferring, Closing}
 use Rattle.ftp_dialogue.specs.declared.stage.Transferring.{Transferring as Fetched}
 use Rattle.ftp_dialogue.specs.declared.stage.Transferring.TheVariants as fetch
 use Rattle.ftp_dialogue.specs.declared.state.State.{State}
@@ -100,11 +100,6 @@ module _ (Asks : Type 0) (May : State → FtpError → Type 0) (coding : Coding)
   resyncing_backed =
       cond_backed Any Asks May (some_live state.counts.owed) (Leaf (Fault faults.DataConnectionAlreadyOpen) state) (saying coding (Some command.Noop) (seeking most_passed_over state))
       (λ grave. absurd grave) (line_backed Any Asks May coding (Some command.Noop) (seeking most_passed_over state) (seeking_backed most_passed_over))
-
-  sought_left : (seeks : Resync) → Backed Asks May (resync_left coding state seeks)
-  sought_left resync.Wording = resyncing_backed
-  sought_left (resync.Sending line) = seeking_backed most_passed_over
-  sought_left (resync.Seeking left) = seeking_backed left
 
   module _ (after : State → Tree) (backed : Backed Asks May (after state)) where
     accepted_backed : (how : Ending) → Needs Asks May how → (reply : Response) → Backed Asks May (accepted coding how state reply after)
@@ -210,14 +205,12 @@ module _ (Asks : Type 0) (called : Call) (may_ask : Carries called → Asks) whe
       last_backed = row_backed Asks May coding state stops tt (row_of called Second) (own_needs May short false)
 
       later_backed : (turn : Turn) → Backed Asks May (later coding called turn state)
-      later_backed First = last_backed
       later_backed Second = tt
       later_backed (Passive offset after) = restart_backed Any Asks state May coding called last_backed offset
       later_backed (ExtendedPassive offset tries) = restart_backed Any Asks state May coding called last_backed offset
       later_backed (Active address offset) = restart_backed Any Asks state May coding called last_backed offset
-      later_backed (Restart offset) = last_backed
       later_backed (Closed close) = tt
-      later_backed Aborted = last_backed
+      later_backed other = last_backed
 
       turn_backed : (turn : Turn) → TurnOf called turn → ((kind : ErrorKind) → turn ≡ Closed (Some kind) → (left : State) → May left (io kind)) → Backed Asks May (from_turn coding called turn state)
       turn_backed turn of kept = row_backed Asks May coding state (later coding called turn) (later_backed turn) (row_of called turn) (turn_needs turn of kept)
@@ -260,10 +253,13 @@ module _ (Asks : Type 0) (called : Call) (may_ask : Carries called → Asks) (Ma
   aborting_backed : aborts called ≡ true → Backed Asks May (aborting coding called state)
   aborting_backed ends = line_backed Any Asks May coding (Some command.Abor) (breaking_off coding called state) (breaking_backed ends)
 
-  abort_backed : aborts called ≡ true → (how : Abort) → Backed Asks May (abort_left coding called state how)
-  abort_backed ends abort.Wording = aborting_backed ends
-  abort_backed ends (abort.Sending line) = breaking_backed ends
-  abort_backed ends abort.ClosingData = breaking_backed ends
+  recovering_backed : (recovery : Recovery) → RecoveryOf called recovery → Backed Asks May (recovering coding called state recovery)
+  recovering_backed Abort of = aborting_backed of
+  recovering_backed (Resync turn) of = resyncing_backed Asks May coding state
+
+  recovered_backed : (recovery : Recovery) → RecoveryOf called recovery → Backed Asks May (recovered coding called state recovery)
+  recovered_backed Abort of = breaking_backed of
+  recovered_backed (Resync turn) of = seeking_backed Asks May coding state most_passed_over
 
 module _ (Asks : Type 0) (called : Call) (may_ask : Carries called → Asks) (May : State → FtpError → Type 0) (short : sends called ≡ true → (state : State) → May state took_no_more) (coding : Coding) (state : State) where
   pub begun_backed : (negotiates called ≡ true → (fault : FtpError) (s : State) → cannot_open s.counts ≡ Some fault → dialogue coding called state ≡ Leaf (Fault fault) s → May s fault) → Backed Asks May (dialogue coding called state)
@@ -335,7 +331,6 @@ module _ (Asks : Type 0) (called : Call) (may_ask : Carries called → Asks) (Ma
   carries_backed (fetch.Starting what) is kept = performed_backed (may_ask (inl is.0)) what is
   carries_backed (fetch.Gathering form left all) is kept = gathering_backed Any Asks (may_ask (inl is.0)) coding form (λ all. tt) left May all state
   carries_backed (fetch.Sending left total rest) is kept = sending_backed Asks (may_ask (inl is.0)) left May (gives is) total rest state
-  carries_backed (fetch.ClosingData form told) is kept = closing_fetch_backed Any Asks (may_ask (inl is.0.0)) May form told state (told_reasoned told (kept (inl is.0.0)))
   carries_backed (fetch.Ending form told) is kept = ending_fetch_backed Any Asks May form told state (told_reasoned told (kept (inl is.0.0)))
 
   stage_backed : (stage : Stage) → StageOf called stage → (Carries called → (fault : FtpError) → kept_error stage ≡ Some fault → (left : State) → May left fault) → (negotiates called ≡ true → (fault : FtpError) → cannot_open state.counts ≡ Some fault → remaining coding called state stage ≡ Leaf (Fault fault) state → May state fault) → Backed Asks May (remaining coding called state stage)
@@ -345,14 +340,17 @@ module _ (Asks : Type 0) (called : Call) (may_ask : Carries called → Asks) (Ma
       reason kind at =
           let Q : Turn → Type 0 = λ t. TurnOf called t in
           kept (inr (inr (subst Q at is))) (io kind) (ap (λ t. kept_error (At t)) at)
-  stage_backed (Saying line a) is kept spent = awaited_backed Asks called may_ask May short coding state a is.2 is.0 kept
+  stage_backed (Composing recovery) is kept spent = recovering_backed Asks called may_ask May short coding state recovery is
+  stage_backed (Saying line (Hears a)) is kept spent = awaited_backed Asks called may_ask May short coding state a is.2 is.0 kept
+  stage_backed (Saying line (Recovers recovery)) is kept spent = recovered_backed Asks called may_ask May short coding state recovery is
   stage_backed (Hearing a) is kept spent = awaited_backed Asks called may_ask May short coding state a is.2 is.0 kept
-  stage_backed (Arming turn offset) is kept spent = tt
-  stage_backed (Resyncing turn seeks) is kept spent = sought_left Asks May coding state seeks
+  stage_backed (Seeking turn left) is kept spent = seeking_backed Asks May coding state left
+  stage_backed (SettingOffset turn offset) is kept spent = tt
   stage_backed (OpeningData on) is kept spent = way_backed is.0 on is.1 (spent is.0)
-  stage_backed Closing is kept spent = closing_backed Asks called may_ask May short coding state is
-  stage_backed (Aborting how) is kept spent = abort_backed Asks called may_ask May short coding state is how
   stage_backed (Transferring fetching) is kept spent = carries_backed fetching is kept
+  stage_backed (Closing Finishes) is kept spent = closing_backed Asks called may_ask May short coding state is
+  stage_backed (Closing Aborts) is kept spent = breaking_backed Asks called may_ask May short coding state is
+  stage_backed (Closing (FetchedAll form told)) is kept spent = closing_fetch_backed Any Asks (may_ask (inl is.0.0)) May form told state (told_reasoned told (kept (inl is.0.0)))
 
   -- where a poll begins
   pub entered_backed : (stage : Stage) → StageIn (Some called) stage → (Carries called → (fault : FtpError) → kept_error stage ≡ Some fault → (left : State) → May left fault) → (negotiates called ≡ true → (fault : FtpError) (s : State) → cannot_open s.counts ≡ Some fault → entered_tree coding called stage state ≡ Leaf (Fault fault) s → May s fault) → Backed Asks May (entered_tree coding called stage state)

@@ -1,5 +1,5 @@
 -- Lemmas on the steps of a call that reads a whole data connection.
-use Rattle.std.proofs.Common.{◌≡◌, ◌<◌, ◌-◌, ◌+◌, ◌⊎◌, ◌&&◌, Option, Some, None, ℕ, zero, suc, Bool, true, false, cond, nat_le, List, [], ◌∷◌, ◌++◌, length, Result, Err, inl, inr, refl, ap, sym, ◌∙◌, subst, arith}
+use Rattle.std.proofs.Common.{◌≡◌, ◌<◌, ◌-◌, ◌+◌, ◌⊎◌, ◌&&◌, Option, Some, ℕ, zero, suc, Bool, true, false, cond, nat_le, List, [], ◌∷◌, ◌++◌, length, Result, Err, inl, inr, refl, ap, sym, ◌∙◌, subst, arith}
 use Rattle.futures.specs.declared.task.Poll.{Poll}
 use Rattle.std.proofs.lemmas.Bool.{ne_eqb}
 use Rattle.futures.specs.declared.task.Poll.TheVariants as poll
@@ -24,23 +24,23 @@ use Rattle.ftp_dialogue.specs.declared.gathered.More.TheVariants as more
 use Rattle.ftp_dialogue.specs.declared.model.NetOutcome.{NetOutcome}
 use Rattle.ftp_dialogue.specs.declared.model.NetOutcome.TheVariants as came
 use Rattle.ftp_dialogue.specs.declared.stage.Transferring.{Transferring as Fetched}
-use Rattle.ftp_dialogue.specs.declared.stage.Transferring.TheVariants.{Starting, Gathering, ClosingData, Ending}
+use Rattle.ftp_dialogue.specs.declared.stage.Transferring.TheVariants.{Starting, Gathering, Ending}
 use Rattle.ftp_dialogue.specs.declared.stage.Stage.{Stage}
 use Rattle.ftp_dialogue.specs.declared.stage.Stage.TheVariants.{Transferring}
 use Rattle.ftp_dialogue.specs.declared.stage.Step.TheVariants.{Next, Pending, Done}
 use Rattle.ftp_dialogue.specs.declared.state.State.{State}
 use Rattle.ftp_dialogue.specs.Coding.{Coding}
-use Rattle.ftp_dialogue.specs.NetEvents.{MovementIs, Net, ReadIs, answers}
+use Rattle.ftp_dialogue.specs.NetEvents.{Net, ReadIs, answers}
 use Rattle.ftp_dialogue.specs.Gathering.{GrowsBy}
-use Rattle.ftp_dialogue.specs.Dialogue.{Tree, Move, Leaf, chunk, closed_as, expecting, fetch_concluded, fetch_ending, fetch_closing_data, fetched, fetching, first_fault, gathering, grown, most_reads, on_data, sending, told_of_close, too_long, unfetched, wants_memory, with_abandoned, with_fetched}
+use Rattle.ftp_dialogue.specs.Dialogue.{Tree, Move, Leaf, chunk, expecting, fetch_concluded, fetch_ending, fetch_closing_data, fetched, fetching, first_fault, gathering, grown, most_reads, on_data, sending, too_long, unfetched, wants_memory, with_abandoned, with_fetched}
 use Rattle.ftp_base.specs.Ascii.{most_bytes}
 use Rattle.ftp_dialogue.specs.Link.{Link}
 use Rattle.ftp_dialogue.specs.Promises.{Aborts, AbortsRead, FailsRead, IsFault, Untouched, failed_from, state_at}
 use Rattle.ftp_dialogue.specs.State.{SessionValue}
-use Rattle.ftp_dialogue.specs.Steps.Moving.{Advances, AsksFirst, MakesStep, Ends, EndsFetch, FetchFailsIf, Follows, Grows, HeardFault, Hears, Moves, ReadsBy, Still}
-use Rattle.ftp_dialogue.specs.Steps.Stages.{AnswersKind, FetchOf, MayAnswer, MayFetch, fetch_left, nodes_of_fetch}
+use Rattle.ftp_dialogue.specs.Steps.Moving.{Advances, AsksFirst, MakesStep, Ends, EndsFetch, FetchFailsIf, Follows, Grows, HeardFault, Hears, Moves, ReadsBy, Still, closing_with}
+use Rattle.ftp_dialogue.specs.Steps.Stages.{AnswersKind, FetchOf, MayAnswer, MayFetch, StageOf, begun_at, fetch_left, nodes_left, nodes_of_fetch, remaining}
 use Rattle.ftp_dialogue.proofs.Moving.{leaf_ends}
-use Rattle.ftp_dialogue.proofs.NegotiationLemmas.{moved_through, unasked_through, moved_still, still_fails, unchanged_still}
+use Rattle.ftp_dialogue.proofs.NegotiationLemmas.{moved_through, unasked_through, still_fails, unchanged_still}
 use Rattle.ftp_dialogue.proofs.TransitionsLemmas.{not_memory}
 
 -- what is left after so many reads, and where no others are made
@@ -65,10 +65,6 @@ too_long_kind : (form : Fetch) → AnswersKind (kind_of_fetch form) (too_long fo
 too_long_kind Whole = tt
 too_long_kind Listed = tt
 
-closed_kind : (form : Fetch) (told : Option ErrorKind) (answer : Answer) → AnswersKind (kind_of_fetch form) answer → AnswersKind (kind_of_fetch form) (closed_as told answer)
-closed_kind form None answer kind = kind
-closed_kind form (Some fault) answer kind = tt
-
 -- where bytes go over the data connection no reply is awaited
 pub gathering_unheard : (coding : Coding) (form : Fetch) (left : ℕ) (all : List ℕ) (state other : State) → state_at (gathering coding form left all state) OutOfMemory other ≡ other
 unfolding gathering
@@ -83,11 +79,11 @@ sending_unheard (suc left) total (byte ∷ rest) state other = refl
 
 module _ (link : Link) (coding : Coding) (call : Call) where
   -- the next node is reached
-  pub fetch_on : (f f' : Fetched) (old new : SessionValue) → Still link (fetch_left coding old.state f) (fetch_left coding old.state f') old new → nodes_of_fetch f' < nodes_of_fetch f → FetchOf call f' → MakesStep link coding call (Transferring f) (Transferring f') old new Next
-  fetch_on f f' old new still fewer of = record {
+  pub fetch_on : (f : Fetched) (stage' : Stage) (old new : SessionValue) → Still link (fetch_left coding old.state f) (remaining coding call old.state stage') old new → begun_at stage' ≡ true → nodes_left stage' < nodes_of_fetch f → StageOf call stage' → MakesStep link coding call (Transferring f) stage' old new Next
+  fetch_on f stage' old new still begun fewer of = record {
     steps = still.advances;
-    quiet = λ none. let clash : true ≡ false = none in cc;
-    begun = (λ has. inl refl, λ none. let clash : true ≡ false = none in cc);
+    quiet = λ none. let clash : true ≡ false = sym begun ∙ none in cc;
+    begun = (λ has. inl refl, λ none. let clash : true ≡ false = sym begun ∙ none in cc);
     answers = tt;
     fewer = λ is. fewer;
     stage_of = of;
@@ -97,21 +93,13 @@ module _ (link : Link) (coding : Coding) (call : Call) where
   pub fetch_starts : (form : Fetch) (v : SessionValue) → MayFetch call form → MakesStep link coding call (Transferring (Starting (task.Fetch form))) (Transferring (Gathering form most_reads [])) v v Next
   fetch_starts form v may =
       let tree : Tree = fetching coding form v.state in
-      fetch_on (Starting (task.Fetch form)) (Gathering form most_reads []) v v (unchanged_still link tree tree v v refl refl) (omega arith) may
+      fetch_on (Starting (task.Fetch form)) (Transferring (Gathering form most_reads [])) v v (unchanged_still link tree tree v v refl refl) refl (omega arith) may
 
   -- too many reads were made
-  pub fetch_full : (form : Fetch) (left : ℕ) (all : List ℕ) (v : SessionValue) → left ≡ 0 → MayFetch call form → MakesStep link coding call (Transferring (Gathering form left all)) (Transferring (ClosingData form (too_long form))) v v Next
+  pub fetch_full : (form : Fetch) (left : ℕ) (all : List ℕ) (v : SessionValue) → left ≡ 0 → MayFetch call form → MakesStep link coding call (Transferring (Gathering form left all)) (closing_with form (too_long form)) v v Next
   fetch_full form left all v none may =
-      let P : ℕ → Type 0 = λ n. MakesStep link coding call (Transferring (Gathering form n all)) (Transferring (ClosingData form (too_long form))) v v Next in
-      subst P (sym none) (fetch_on (Gathering form zero all) (ClosingData form (too_long form)) v v (unchanged_still link (gathering coding form zero all v.state) (fetch_closing_data form (too_long form) v.state) v v refl (sym (gathering_over coding form all v.state))) (omega arith) (may, too_long_kind form))
-
-  -- the data connection is closed
-  pub fetch_parted : (form : Fetch) (answer : Answer) (old new : SessionValue) (outcome : NetOutcome) → new ≡ record old { net = new.net } → (link.tells → MovementIs movement.Close outcome old.net new.net) → FetchOf call (ClosingData form answer) → MakesStep link coding call (Transferring (ClosingData form answer)) (Transferring (Ending form (closed_as (told_of_close old.state.uploads outcome) answer))) old new Next
-  fetch_parted form answer old new outcome beside tie of =
-      let told : NetOutcome → Answer = λ came. closed_as (told_of_close old.state.uploads came) answer in
-      let V : SessionValue → Type 0 = λ v. MakesStep link coding call (Transferring (ClosingData form answer)) (Transferring (Ending form (told outcome))) old v Next in
-      let still = moved_still link old new.net movement.Close outcome tie (λ came. fetch_ending form (told came) old.state) in
-      subst V (sym beside) (fetch_on (ClosingData form answer) (Ending form (told outcome)) old (record old { net = new.net }) still (omega arith) (of.0, closed_kind form (told_of_close old.state.uploads outcome) answer of.1))
+      let P : ℕ → Type 0 = λ n. MakesStep link coding call (Transferring (Gathering form n all)) (closing_with form (too_long form)) v v Next in
+      subst P (sym none) (fetch_on (Gathering form zero all) (closing_with form (too_long form)) v v (unchanged_still link (gathering coding form zero all v.state) (fetch_closing_data form (too_long form) v.state) v v refl (sym (gathering_over coding form all v.state))) refl (omega arith) (may, too_long_kind form))
 
   -- there is no data connection
   pub fetch_lacks : (f : Fetched) (stage' : Stage) (old : SessionValue) → state_at (fetch_left coding old.state f) OutOfMemory old.state ≡ old.state → old.channel.failed ≡ false → MakesStep link coding call (Transferring f) stage' old (failed_from old) (Done (Fault OutOfMemory))
@@ -137,47 +125,53 @@ module _ (link : Link) (coding : Coding) (call : Call) where
     here = Gathering form (suc n) all
 
     -- a read led here
-    read_on : (outcome : NetOutcome) (next : Fetched) → ReadsBy link old new outcome → on_data coding form all on over outcome ≡ fetch_left coding old.state next → nodes_of_fetch next < suc n + 10 → FetchOf call next → MakesStep link coding call (Transferring here) (Transferring next) old new Next
-    read_on outcome next reads is fewer of =
-        let B : Tree → Type 0 = λ t. Still link t (fetch_left coding old.state next) old new in
+    read_on : (outcome : NetOutcome) (next : Stage) → ReadsBy link old new outcome → on_data coding form all on over outcome ≡ remaining coding call old.state next → begun_at next ≡ true → nodes_left next < suc n + 10 → StageOf call next → MakesStep link coding call (Transferring here) next old new Next
+    read_on outcome next reads is begun fewer of =
+        let B : Tree → Type 0 = λ t. Still link t (remaining coding call old.state next) old new in
         let A : Tree → Type 0 = λ t. Still link (Move (movement.Read chunk) (on_data coding form all on over)) t old new in
-        fetch_on here next old new (subst B (sym (gathering_is coding form n all old.state)) (subst A is (reads (on_data coding form all on over)))) fewer of
+        fetch_on here next old new (subst B (sym (gathering_is coding form n all old.state)) (subst A is (reads (on_data coding form all on over)))) begun fewer of
 
     -- there are more bytes
-    grew_to : (byte : ℕ) (bytes all' : List ℕ) (next : Fetched) → all' ≡ all ++ byte ∷ bytes → ReadsBy link old new (came.Read (byte ∷ bytes)) → Follows coding form n all' more.Grew next → MakesStep link coding call (Transferring here) (Transferring next) old new Next
+    grew_to : (byte : ℕ) (bytes all' : List ℕ) (next : Stage) → all' ≡ all ++ byte ∷ bytes → ReadsBy link old new (came.Read (byte ∷ bytes)) → Follows coding form n all' more.Grew next → MakesStep link coding call (Transferring here) next old new Next
     grew_to byte bytes all' next same reads is = go (nat_le (length all') most_bytes) refl
       where
-        N : Fetched → Type 0
-        N f = MakesStep link coding call (Transferring here) (Transferring f) old new Next
+        N : Stage → Type 0
+        N s = MakesStep link coding call (Transferring here) s old new Next
+
+        grows : Stage
+        grows = Transferring (Gathering form n all')
+
+        stops : Stage
+        stops = closing_with form (too_long form)
 
         go : (b : Bool) → nat_le (length all') most_bytes ≡ b → N next
         go true fits =
-            let to : next ≡ Gathering form n all' = is ∙ ap (λ x. cond x (Gathering form n all') (ClosingData form (too_long form))) fits in
+            let to : next ≡ grows = is ∙ ap (λ x. cond x grows stops) fits in
             let led : grown form (all ++ byte ∷ bytes) on over ≡ gathering coding form n all' old.state = ap (λ l. grown form l on over) (sym same) ∙ ap (λ x. cond x (on all') (over (too_long form))) fits in
-            subst N (sym to) (read_on (came.Read (byte ∷ bytes)) (Gathering form n all') reads led (omega arith) may)
+            subst N (sym to) (read_on (came.Read (byte ∷ bytes)) grows reads led refl (omega arith) may)
         go false long =
-            let to : next ≡ ClosingData form (too_long form) = is ∙ ap (λ x. cond x (Gathering form n all') (ClosingData form (too_long form))) long in
+            let to : next ≡ stops = is ∙ ap (λ x. cond x grows stops) long in
             let led : grown form (all ++ byte ∷ bytes) on over ≡ over (too_long form) = ap (λ l. grown form l on over) (sym same) ∙ ap (λ x. cond x (on all') (over (too_long form))) long in
-            subst N (sym to) (read_on (came.Read (byte ∷ bytes)) (ClosingData form (too_long form)) reads led (omega arith) (may, too_long_kind form))
+            subst N (sym to) (read_on (came.Read (byte ∷ bytes)) stops reads led refl (omega arith) (may, too_long_kind form))
 
     -- there are no others, or a read failed, or there was no memory
-    over_to : (outcome : NetOutcome) (answer : Answer) (next : Fetched) → ReadsBy link old new outcome → on_data coding form all on over outcome ≡ over answer → AnswersKind (kind_of_fetch form) answer → next ≡ ClosingData form answer → MakesStep link coding call (Transferring here) (Transferring next) old new Next
+    over_to : (outcome : NetOutcome) (answer : Answer) (next : Stage) → ReadsBy link old new outcome → on_data coding form all on over outcome ≡ over answer → AnswersKind (kind_of_fetch form) answer → next ≡ closing_with form answer → MakesStep link coding call (Transferring here) next old new Next
     over_to outcome answer next reads led kind is =
-        let N : Fetched → Type 0 = λ f. MakesStep link coding call (Transferring here) (Transferring f) old new Next in
-        subst N (sym is) (read_on outcome (ClosingData form answer) reads led (omega arith) (may, kind))
+        let N : Stage → Type 0 = λ s. MakesStep link coding call (Transferring here) s old new Next in
+        subst N (sym is) (read_on outcome (closing_with form answer) reads led refl (omega arith) (may, kind))
 
-    lacked_to : (next : Fetched) → ReadsBy link old new came.NoMemory → next ≡ ClosingData form (Fault OutOfMemory) → MakesStep link coding call (Transferring here) (Transferring next) old new Next
+    lacked_to : (next : Stage) → ReadsBy link old new came.NoMemory → next ≡ closing_with form (Fault OutOfMemory) → MakesStep link coding call (Transferring here) next old new Next
     lacked_to next reads is = over_to came.NoMemory (Fault OutOfMemory) next reads refl (memory_kind form) is
       where
         memory_kind : (f : Fetch) → AnswersKind (kind_of_fetch f) (Fault OutOfMemory)
         memory_kind f = tt
 
-    ended_to : (all' : List ℕ) (next : Fetched) → all' ≡ all → ReadsBy link old new (came.Read []) → ReadsBy link old new came.NoMemory → Follows coding form n all' more.Ended next → MakesStep link coding call (Transferring here) (Transferring next) old new Next
+    ended_to : (all' : List ℕ) (next : Stage) → all' ≡ all → ReadsBy link old new (came.Read []) → ReadsBy link old new came.NoMemory → Follows coding form n all' more.Ended next → MakesStep link coding call (Transferring here) next old new Next
     ended_to all' next same reads lacks (inl is) =
-        over_to (came.Read []) (fetched coding form all) next reads refl (fetched_kind coding form all) (is ∙ ap (λ l. ClosingData form (fetched coding form l)) same)
+        over_to (came.Read []) (fetched coding form all) next reads refl (fetched_kind coding form all) (is ∙ ap (λ l. closing_with form (fetched coding form l)) same)
     ended_to all' next same reads lacks (inr is) = lacked_to next lacks is
 
-    pub fetch_read : (all' : List ℕ) (m : More) (next : Fetched) → Grows link all all' old new (poll.Ready m) → Follows coding form n all' m next → MakesStep link coding call (Transferring here) (Transferring next) old new Next
+    pub fetch_read : (all' : List ℕ) (m : More) (next : Stage) → Grows link all all' old new (poll.Ready m) → Follows coding form n all' m next → MakesStep link coding call (Transferring here) next old new Next
     fetch_read all' more.Grew next grows is = grew_to grows.0 grows.1 all' next grows.2 grows.3 is
     fetch_read all' more.Ended next grows is = ended_to all' next grows.0 grows.1 grows.2 is
     fetch_read all' (more.Failed kind) next reads is = over_to (came.Failed kind) (unfetched form kind) next reads refl (unfetched_kind form kind) is
@@ -197,7 +191,7 @@ module _ (link : Link) (coding : Coding) (call : Call) where
         })
 
   -- the same after any number of reads
-  pub fetch_read_at : (form : Fetch) (left : ℕ) (all : List ℕ) (old new : SessionValue) (all' : List ℕ) (m : More) (next : Fetched) → MayFetch call form → (left ≡ 0 → ⊥) → Grows link all all' old new (poll.Ready m) → Follows coding form (left - 1) all' m next → MakesStep link coding call (Transferring (Gathering form left all)) (Transferring next) old new Next
+  pub fetch_read_at : (form : Fetch) (left : ℕ) (all : List ℕ) (old new : SessionValue) (all' : List ℕ) (m : More) (next : Stage) → MayFetch call form → (left ≡ 0 → ⊥) → Grows link all all' old new (poll.Ready m) → Follows coding form (left - 1) all' m next → MakesStep link coding call (Transferring (Gathering form left all)) next old new Next
   fetch_read_at form zero all old new all' m next may some grows is = absurd (some refl)
   fetch_read_at form (suc n) all old new all' m next may some grows is =
       let e : suc n - 1 ≡ n = omega arith in

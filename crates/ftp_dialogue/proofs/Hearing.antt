@@ -106,11 +106,8 @@ begun_resumes call v tree resumes =
 
 -- bytes came, and nothing else happened
 tells_input : (heard : Outcome) (came : List ℕ) (ended : Bool) (t u : Told) → HearTells (Ok heard) came ended t u → u ≡ after_input came ended t
-tells_input (Whole reply code) came ended t u told = told
-tells_input (Bad line) came ended t u told = told
-tells_input TooLarge came ended t u told = told
-tells_input Ended came ended t u told = told
 tells_input Waits came ended t u told = told.0
+tells_input other came ended t u told = told
 
 -- a session that hasn't failed, and what a read leaves of it
 module _ (link : Link) (state : State) (net : Net) (t : Told) (kept ahead unsent : List ℕ) (first : Bool) (rule : ReplyRule) (codes : Expected) (next : Result Response FtpError → Tree) (kept' ahead' : List ℕ) (ended : Bool) (sound : (form : ReplyForm) × (outcome (rule_left kept rule state.settings.reply_rule) form kept false ≡ Waits)) where

@@ -1,8 +1,8 @@
-pub mod AbortingLemmas
 pub mod Backed
 pub mod OpeningData
 pub mod CarryingLemmas
 pub mod CatchingUpLemmas
+pub mod ClosingLemmas
 pub mod DataCommands
 pub mod DrainingLemmas
 pub mod DueReplies
@@ -22,7 +22,7 @@ pub mod Places
 pub mod Polls
 pub mod Questioning
 pub mod Reading
-pub mod ResyncLemmas
+pub mod RecoveringLemmas
 pub mod Stages
 pub mod TransitionsLemmas
 pub mod UnsentLemmas

@@ -97,22 +97,12 @@ read_traffic most Closed t u is = absurd is
 written_traffic : (bytes : List ℕ) (outcome : NetOutcome) (t u : Told) → WriteIs bytes outcome t u → traffic_of u ≡ written_more bytes outcome (traffic_of t)
 written_traffic bytes (Wrote count) t u is = ap traffic_of is.2
 written_traffic bytes (Failed kind) t u is = ap traffic_of is.same
-written_traffic bytes (Answered outcome) t u is = absurd is
-written_traffic bytes (Built fault) t u is = absurd is
-written_traffic bytes (Secured fault) t u is = absurd is
-written_traffic bytes (Read other) t u is = absurd is
-written_traffic bytes Closed t u is = absurd is
-written_traffic bytes NoMemory t u is = absurd is
+written_traffic bytes other t u is = absurd is
 
 closed_traffic : (outcome : NetOutcome) (t u : Told) → CloseIs outcome t u → traffic_of u ≡ traffic_of t
 closed_traffic Closed t u is = ap traffic_of is
 closed_traffic (Failed kind) t u is = ap traffic_of is.same
-closed_traffic (Answered outcome) t u is = absurd is
-closed_traffic (Built fault) t u is = absurd is
-closed_traffic (Secured fault) t u is = absurd is
-closed_traffic (Read bytes) t u is = absurd is
-closed_traffic (Wrote count) t u is = absurd is
-closed_traffic NoMemory t u is = absurd is
+closed_traffic other t u is = absurd is
 
 map-snoc : (l : List Told) (t : Told) → map traffic_of (l ++ t ∷ []) ≡ map traffic_of l ++ traffic_of t ∷ []
 map-snoc [] t = refl
@@ -151,8 +141,7 @@ drops (Left number) = Parted ∷ []
 
 pub drops_none : (owed : Owed) → outcomes_of (drops owed) ≡ []
 drops_none Nothing = refl
-drops_none (Live number) = refl
-drops_none (Left number) = refl
+drops_none other = refl
 
 module _ (tells : Type 0) (v w : SessionValue) where
   -- nothing else happens

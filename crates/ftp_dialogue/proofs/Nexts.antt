@@ -5,7 +5,7 @@ use Rattle.ftp_calls.specs.declared.call.Call.{Call}
 use Rattle.ftp_calls.specs.declared.exchange.Ending.{Ending}
 use Rattle.ftp_calls.specs.declared.exchange.Ending.TheVariants as ending
 use Rattle.ftp_calls.specs.declared.exchange.Row.{Row}
-use Rattle.ftp_calls.specs.declared.exchange.Row.TheVariants.{Exchanges, Arms, Resyncs, Sets, Moves}
+use Rattle.ftp_calls.specs.declared.exchange.Row.TheVariants.{Exchanges, Arms}
 use Rattle.ftp_calls.specs.declared.exchange.Turn.{Turn}
 use Rattle.ftp_calls.specs.declared.exchange.Turn.TheVariants.{First, Second, Passive, ExtendedPassive, Active, Restart, Closed, Aborted}
 use Rattle.ftp_calls.specs.Exchanges.{Nothing, Replies, ending_of, is_draining, kind_of, negotiates, next_turn, only_reads, reads, restarted, restarts, row_of}
@@ -19,25 +19,10 @@ use Rattle.ftp_dialogue.specs.Steps.Stages.{GoesOnTo, StageAfter, StageOf, TurnO
 
 -- a reply that goes on is of no plain read
 goes_on_unread : (how : Ending) → kind_of how ≡ Nothing → is_draining how ≡ false → only_reads how ≡ false
-goes_on_unread ending.Done kind undrained = refl
 goes_on_unread ending.GivesReply kind undrained = let clash : Replies ≡ Nothing = kind in cc
 goes_on_unread ending.TakesReply kind undrained = let clash : Replies ≡ Nothing = kind in cc
-goes_on_unread ending.Greets kind undrained = refl
-goes_on_unread ending.GivesPath kind undrained = refl
-goes_on_unread ending.GivesSecondLine kind undrained = refl
-goes_on_unread ending.GivesTime kind undrained = refl
-goes_on_unread ending.GivesSize kind undrained = refl
-goes_on_unread ending.GivesFeatures kind undrained = refl
-goes_on_unread (ending.SetsText text) kind undrained = refl
-goes_on_unread (ending.GoesOn status) kind undrained = refl
-goes_on_unread ending.Continues kind undrained = refl
-goes_on_unread ending.GivesAddress kind undrained = refl
-goes_on_unread (ending.GivesPort tries) kind undrained = refl
-goes_on_unread (ending.Opens replies) kind undrained = refl
-goes_on_unread (ending.Performs task) kind undrained = refl
-goes_on_unread (ending.Finishes close) kind undrained = refl
 goes_on_unread ending.Drains kind undrained = let clash : true ≡ false = undrained in cc
-goes_on_unread ending.Stops kind undrained = refl
+goes_on_unread other kind undrained = refl
 
 row_unread : (r : Row) (how : Ending) → ending_of r ≡ Some how → only_reads how ≡ false → reads r ≡ false
 row_unread (Exchanges e) how is unread =
@@ -48,9 +33,7 @@ row_unread (Exchanges e) how is unread =
     of_some None = false
     of_some (Some other) = only_reads other
 row_unread (Arms offset) how is unread = refl
-row_unread Resyncs how is unread = refl
-row_unread (Sets setting) how is unread = refl
-row_unread (Moves movement) how is unread = refl
+row_unread other how is unread = refl
 
 -- after the connection is agreed on
 after_agreed : (call : Call) (turn : Turn) (b : Bool) → negotiates call ≡ true → TurnOf call turn → TurnOf call (cond b turn Second)

@@ -4,10 +4,10 @@ use Rattle.ftp_calls.proofs.Openings.{opens_alike, row_is_own}
 use Rattle.ftp_calls.specs.declared.call.Answer.{Answer}
 use Rattle.ftp_calls.specs.declared.call.Call.{Call}
 use Rattle.ftp_calls.specs.declared.exchange.Ending.{Ending}
-use Rattle.ftp_calls.specs.declared.exchange.Ending.TheVariants.{Done, GivesReply, TakesReply, Greets, GivesPath, GivesSecondLine, GivesTime, GivesSize, GivesFeatures, SetsText, GoesOn, Continues, GivesAddress, GivesPort, Opens, Performs, Finishes, Drains, Stops}
+use Rattle.ftp_calls.specs.declared.exchange.Ending.TheVariants.{Done, Continues, GivesAddress, GivesPort, Finishes, Stops}
 use Rattle.ftp_calls.specs.declared.exchange.Task.{Task}
 use Rattle.ftp_calls.specs.declared.exchange.Row.{Row}
-use Rattle.ftp_calls.specs.declared.exchange.Row.TheVariants.{Exchanges, Arms, Resyncs, Sets, Moves}
+use Rattle.ftp_calls.specs.declared.exchange.Row.TheVariants.{Exchanges, Arms}
 use Rattle.ftp_calls.specs.declared.exchange.Turn.{Turn}
 use Rattle.ftp_calls.specs.declared.exchange.Turn.TheVariants.{First, Second, Passive, ExtendedPassive, Active, Restart, Closed, Aborted}
 use Rattle.ftp_calls.specs.Exchanges.{Kind, ending_of, given_by, is_draining, is_negotiating, is_opening, is_own, kind_of, kind_of_task, negotiates, opens, own_row, row_of}
@@ -24,32 +24,14 @@ row_agrees (Some ending) = agrees ending
 
 -- of a call's own rows only that which opens a data connection leads to one
 ending_agrees : (e : Ending) (rest : Bool) → not (is_negotiating e) && rest ≡ true → agrees e ≡ is_opening e
-ending_agrees Done rest own = refl
-ending_agrees GivesReply rest own = refl
-ending_agrees TakesReply rest own = refl
-ending_agrees Greets rest own = refl
-ending_agrees GivesPath rest own = refl
-ending_agrees GivesSecondLine rest own = refl
-ending_agrees GivesTime rest own = refl
-ending_agrees GivesSize rest own = refl
-ending_agrees GivesFeatures rest own = refl
-ending_agrees (SetsText text) rest own = refl
-ending_agrees (GoesOn status) rest own = refl
 ending_agrees Continues rest own = let clash : false ≡ true = own in cc
 ending_agrees GivesAddress rest own = let clash : false ≡ true = own in cc
 ending_agrees (GivesPort tries) rest own = let clash : false ≡ true = own in cc
-ending_agrees (Opens replies) rest own = refl
-ending_agrees (Performs task) rest own = refl
-ending_agrees (Finishes close) rest own = refl
-ending_agrees Drains rest own = refl
-ending_agrees Stops rest own = refl
+ending_agrees other rest own = refl
 
 row_own_agrees : (row : Row) → is_own row ≡ true → row_agrees (ending_of row) ≡ opens row
 row_own_agrees (Exchanges exchange) own = ending_agrees exchange.ending (not (is_draining exchange.ending) || is_none exchange.says) own
-row_own_agrees (Arms offset) own = refl
-row_own_agrees Resyncs own = refl
-row_own_agrees (Sets setting) own = refl
-row_own_agrees (Moves movement) own = refl
+row_own_agrees other own = refl
 
 pub own_agrees : (call : Call) (first : Bool) → row_agrees (ending_of (own_row call first)) ≡ opens (own_row call first)
 own_agrees call first = row_own_agrees (own_row call first) (row_is_own call first)
@@ -63,10 +45,6 @@ pub asks_opens : (call : Call) (turn : Turn) (ending : Ending) → ending_of (ro
 unfolding some_ending
 asks_opens call First ending row may of = sym (own_agrees call true) ∙ ap row_agrees row ∙ may
 asks_opens call Second ending row may of = sym (opens_alike call) ∙ sym (own_agrees call false) ∙ ap row_agrees row ∙ may
-asks_opens call (Passive offset after) ending row may of = of
-asks_opens call (ExtendedPassive offset tries) ending row may of = of
-asks_opens call (Active address offset) ending row may of = of
-asks_opens call (Restart offset) ending row may of = of
 asks_opens call (Closed close) ending row may of =
     let same : Finishes close ≡ ending = ap (some_ending ending) row in
     let A : Ending → Type 0 = λ e. agrees e ≡ true in
@@ -77,6 +55,7 @@ asks_opens call Aborted ending row may of =
     let A : Ending → Type 0 = λ e. agrees e ≡ true in
     let clash : false ≡ true = subst A (sym same) may in
     cc
+asks_opens call other ending row may of = of
 
 -- the reply that may refuse EPSV is that of its turn
 row_no_port : {T : Type 0} (row : Row) → is_own row ≡ true → ending_of row ≡ Some (GivesPort true) → T
@@ -87,9 +66,7 @@ row_no_port (Exchanges exchange) own is =
     let clash : false ≡ true = subst Own same own in
     cc
 row_no_port (Arms offset) own is = let clash : None ≡ Some (GivesPort true) = is in cc
-row_no_port Resyncs own is = let clash : None ≡ Some (GivesPort true) = is in cc
-row_no_port (Sets setting) own is = let clash : None ≡ Some (GivesPort true) = is in cc
-row_no_port (Moves movement) own is = let clash : None ≡ Some (GivesPort true) = is in cc
+row_no_port other own is = let clash : None ≡ Some (GivesPort true) = is in cc
 
 pub port_turn : (call : Call) (turn : Turn) → ending_of (row_of call turn) ≡ Some (GivesPort true) → (offset : ℕ) × (turn ≡ ExtendedPassive offset true)
 unfolding some_ending
@@ -113,18 +90,13 @@ row_answers (Exchanges exchange) ending answer is answers =
     let P : Ending → Type 0 = λ e. AnswersKind (kind_of e) answer in
     subst P (sym same) answers
 row_answers (Arms offset) ending answer is answers = let clash : None ≡ Some ending = is in cc
-row_answers Resyncs ending answer is answers = let clash : None ≡ Some ending = is in cc
-row_answers (Sets setting) ending answer is answers = let clash : None ≡ Some ending = is in cc
-row_answers (Moves movement) ending answer is answers = let clash : None ≡ Some ending = is in cc
+row_answers other ending answer is answers = let clash : None ≡ Some ending = is in cc
 
 -- a call whose reply leads to a whole file or listing
 row_gives : (row : Row) (ending : Ending) → ending_of row ≡ Some ending → given_by row ≡ kind_of ending
 unfolding some_ending
 row_gives (Exchanges exchange) ending is = ap (λ o. kind_of (some_ending ending o)) is
-row_gives (Arms offset) ending is = let clash : None ≡ Some ending = is in cc
-row_gives Resyncs ending is = let clash : None ≡ Some ending = is in cc
-row_gives (Sets setting) ending is = let clash : None ≡ Some ending = is in cc
-row_gives (Moves movement) ending is = let clash : None ≡ Some ending = is in cc
+row_gives other ending is = let clash : None ≡ Some ending = is in cc
 
 pub may_perform : (call : Call) (turn : Turn) (ending : Ending) (task : Task) → TurnOf call turn → ending_of (row_of call turn) ≡ Some ending → agrees ending ≡ true → kind_of ending ≡ kind_of_task task → MayPerform call task
 may_perform call turn ending task of row leads kind = (asks_opens call turn ending row leads of, (turn, of, row_gives (row_of call turn) ending row ∙ kind))
@@ -140,23 +112,14 @@ asking_answers call turn ending (Securing (PerformsAll task)) of row leads answe
 
 pub many_nodes : (turn : Turn) → most_reads + strangers + 19 < nodes_from turn
 many_nodes First = omega arith
-many_nodes Second = omega arith
-many_nodes (Passive offset after) = omega arith
-many_nodes (ExtendedPassive offset tries) = omega arith
-many_nodes (Active address offset) = omega arith
-many_nodes (Restart offset) = omega arith
-many_nodes (Closed close) = omega arith
-many_nodes Aborted = omega arith
+many_nodes other = omega arith
 
 pub fetch_fewer : (turn : Turn) → most_reads + 11 < nodes_from turn - 2
 fetch_fewer turn = omega (arith, many_nodes turn)
 
 pub asking_fewer : (turn : Turn) (kind : Kind) (asking : Asking) → AskingAnswers kind asking → nodes_asked asking turn < nodes_from turn - 2
-asking_fewer turn kind (PeerPort port) answers = omega (arith, many_nodes turn)
-asking_fewer turn kind (Connection address) answers = omega (arith, many_nodes turn)
-asking_fewer turn kind (Peer opened) answers = omega (arith, many_nodes turn)
 asking_fewer turn kind (Accepting peer left opened) answers = absurd answers
-asking_fewer turn kind (Securing opened) answers = omega (arith, many_nodes turn)
+asking_fewer turn kind other answers = omega (arith, many_nodes turn)
 
 -- a call that opens no data connection has no exchange that leads to one
 pub first_plain : (call : Call) → negotiates call ≡ false → row_agrees (ending_of (row_of call First)) ≡ false

@@ -16,7 +16,7 @@ use Rattle.ftp_calls.specs.declared.call.Answer.{Answer}
 use Rattle.ftp_calls.specs.declared.call.Answer.TheVariants.{Fault}
 use Rattle.ftp_calls.specs.declared.call.Call.{Call}
 use Rattle.ftp_calls.specs.declared.exchange.Turn.{Turn}
-use Rattle.ftp_calls.specs.declared.exchange.Turn.TheVariants.{First, Second, Passive, ExtendedPassive, Active, Restart, Closed, Aborted}
+use Rattle.ftp_calls.specs.declared.exchange.Turn.TheVariants.{First, Passive}
 use Rattle.ftp_calls.specs.Exchanges.{negotiates, next_turn}
 use Rattle.ftp_dialogue.specs.declared.negotiation.Reached.{Reached}
 use Rattle.ftp_dialogue.specs.declared.negotiation.Reached.TheVariants as reached
@@ -75,10 +75,6 @@ Begins asks deadline tree = tree ≡ asked_by asks deadline (λ came. after_foun
 
 pub begins : (coding : Coding) (call : Call) (state : State) (way : Way) → way_of coding call state way ≡ asked_by (question_at state way) state.settings.active_deadline (λ came. after_found came (way_of coding call state way))
 begins coding call state (Negotiating offset) = refl
-begins coding call state (Choosing offset) = refl
-begins coding call state (Locating offset) = refl
-begins coding call state (Binding local offset) = refl
-begins coding call state (Asking turn (PeerPort port)) = refl
 begins coding call state (Asking turn (Connection address)) =
     let next : Tree = later coding call turn state in
     elim state.settings.stream_builder as (λ b. Begins (cond b (question.Building address) (question.Connection address)) state.settings.active_deadline (cond b (Build address (on_built state next)) (Ask (Connect address None) (on_connection state next)))) [
@@ -89,6 +85,7 @@ begins coding call state (Asking turn (Peer opened)) = refl
 begins coding call state (Asking turn (Accepting peer left opened)) =
     subst (Begins question.Peer state.settings.active_deadline) (sym (accepting_is (securing (opened_by coding opened state) state) peer left state)) refl
 begins coding call state (Asking turn (Securing opened)) = refl
+begins coding call state other = refl
 
 -- a line that is said first comes after no question
 speaks_on : (asks : Question) (came : Found) (deadline : Duration) (next : Found → Tree) → Fits asks came → Speaks (asked_by asks deadline next) → Speaks (next came)
@@ -249,13 +246,7 @@ module _ (link : Link) (coding : Coding) (call : Call) (way : Way) (opens : nego
 -- fewer nodes are left
 pub reached_fewer : (turn : Turn) → nodes_from turn - 4 < nodes_from turn - 3
 reached_fewer First = omega arith
-reached_fewer Second = omega arith
-reached_fewer (Passive offset after) = omega arith
-reached_fewer (ExtendedPassive offset tries) = omega arith
-reached_fewer (Active address offset) = omega arith
-reached_fewer (Restart offset) = omega arith
-reached_fewer (Closed close) = omega arith
-reached_fewer Aborted = omega arith
+reached_fewer other = omega arith
 
 module _ (coding : Coding) (call : Call) (opens : negotiates call ≡ true) (state : State) where
   -- the first node, by who opens the data connection

@@ -13,28 +13,30 @@ use Rattle.ftp_calls.specs.declared.call.Answer.TheVariants.{Count, Fault}
 use Rattle.ftp_calls.specs.declared.call.Call.{Call}
 use Rattle.ftp_calls.specs.declared.exchange.Fetch.TheVariants.{Whole}
 use Rattle.ftp_calls.specs.declared.exchange.Movement.TheVariants as movement
+use Rattle.ftp_calls.specs.declared.exchange.Task.{Task}
 use Rattle.ftp_calls.specs.declared.exchange.Task.TheVariants as task
 use Rattle.ftp_calls.specs.declared.exchange.Turn.TheVariants.{First}
 use Rattle.ftp_dialogue.specs.declared.model.NetOutcome.{NetOutcome}
 use Rattle.ftp_dialogue.specs.declared.model.NetOutcome.TheVariants as came
 use Rattle.ftp_dialogue.specs.declared.stage.Transferring.{Transferring as Fetched}
-use Rattle.ftp_dialogue.specs.declared.stage.Transferring.TheVariants.{Starting, Sending, ClosingData}
+use Rattle.ftp_dialogue.specs.declared.stage.Transferring.TheVariants.{Starting, Gathering, Sending}
 use Rattle.ftp_dialogue.specs.declared.stage.Stage.{Stage}
 use Rattle.ftp_dialogue.specs.declared.stage.Stage.TheVariants.{Transferring}
+use Rattle.ftp_dialogue.specs.declared.stage.Step.{Step}
 use Rattle.ftp_dialogue.specs.declared.stage.Step.TheVariants.{Next, Pending, Done}
 use Rattle.ftp_dialogue.specs.declared.state.State.{State}
 use Rattle.ftp_dialogue.specs.Coding.{Coding}
 use Rattle.ftp_dialogue.specs.NetEvents.{Net, WriteIs, answers}
 use Rattle.ftp_dialogue.specs.Sending.{SendsBy}
-use Rattle.ftp_dialogue.specs.Dialogue.{Tree, Move, Leaf, fetch_closing_data, giving_up, on_sent, sending, sending_all, size_to_send, storing, with_abandoned}
+use Rattle.ftp_dialogue.specs.Dialogue.{Tree, Move, Leaf, fetch_closing_data, giving_up, most_reads, on_sent, sending, sending_all, size_to_send, storing, with_abandoned}
 use Rattle.ftp_base.specs.Ascii.{most_bytes, wire_data}
 use Rattle.ftp_dialogue.specs.Link.{Link}
 use Rattle.ftp_dialogue.specs.State.{SessionValue}
-use Rattle.ftp_dialogue.specs.Steps.Moving.{AsksFirst, MakesStep, Moves, MovesBy, Sends, Still}
-use Rattle.ftp_dialogue.specs.Steps.Stages.{MayFetch, fetch_left}
+use Rattle.ftp_dialogue.specs.Steps.Moving.{AsksFirst, MakesStep, Moves, MovesBy, Sends, StartsStore, StartsTask, Still, closing_with}
+use Rattle.ftp_dialogue.specs.Steps.Stages.{MayFetch, MayPerform, fetch_left}
 use Rattle.ftp_dialogue.proofs.Moving.{leaf_ends}
 use Rattle.ftp_dialogue.proofs.NegotiationLemmas.{moved_through, unasked_through, unchanged_still}
-use Rattle.ftp_dialogue.proofs.FetchingLemmas.{fetch_on}
+use Rattle.ftp_dialogue.proofs.FetchingLemmas.{fetch_on, fetch_starts}
 
 -- what is left where all bytes have gone out, where no other write is made, and after a write
 pub sending_over : (left total : ℕ) (state : State) → sending left total [] state ≡ fetch_closing_data Whole (Count total) state
@@ -86,7 +88,7 @@ module _ (link : Link) (coding : Coding) (call : Call) where
   store_starts bytes total v may size =
       let bytes_sent : List ℕ = wire_data v.state.settings.text bytes in
       let led : storing bytes v.state ≡ sending total total bytes_sent v.state = ap (λ s. sending_all s bytes_sent v.state) size in
-      fetch_on link coding call (Starting (task.Store bytes)) (Sending total total bytes_sent) v v (unchanged_still link (storing bytes v.state) (sending total total bytes_sent v.state) v v refl (sym led)) (omega (arith, size_within bytes_sent total size)) may
+      fetch_on link coding call (Starting (task.Store bytes)) (Transferring (Sending total total bytes_sent)) v v (unchanged_still link (storing bytes v.state) (sending total total bytes_sent v.state) v v refl (sym led)) refl (omega (arith, size_within bytes_sent total size)) may
 
   pub store_too_large : (bytes : List ℕ) (stage' : Stage) (old new : SessionValue) → size_to_send (wire_data old.state.settings.text bytes) ≡ None → new ≡ record old { state = with_abandoned old.state } → MakesStep link coding call (Transferring (Starting (task.Store bytes))) stage' old new (Done (Fault (ConnectionError SourceTooLarge)))
   store_too_large bytes stage' old new size same =
@@ -95,11 +97,36 @@ module _ (link : Link) (coding : Coding) (call : Call) where
       let led : storing bytes old.state ≡ giving_up fault old.state = ap (λ s. sending_all s bytes_sent old.state) size in
       gives_up (Starting (task.Store bytes)) stage' fault old old new (unchanged_still link (storing bytes old.state) (giving_up fault old.state) old old refl (sym led)) same
 
+  -- a whole file or listing begins
+  pub task_starts : (what : Task) (stage' : Stage) (old new : SessionValue) (result : Step) → MayPerform call what → StartsTask what stage' old new result → MakesStep link coding call (Transferring (Starting what)) stage' old new result
+  task_starts (task.Fetch form) stage' old new result may (is, at, same) =
+      let R : Step → Type 0 = λ r. MakesStep link coding call (Transferring (Starting (task.Fetch form))) stage' old new r in
+      let S : Stage → Type 0 = λ s. MakesStep link coding call (Transferring (Starting (task.Fetch form))) s old new Next in
+      let V : SessionValue → Type 0 = λ v. MakesStep link coding call (Transferring (Starting (task.Fetch form))) (Transferring (Gathering form most_reads [])) old v Next in
+      subst R (sym is) (subst S (sym at) (subst V (sym same) (fetch_starts link coding call form old may)))
+  task_starts (task.Store bytes) stage' old new result may starts = go (size_to_send wire) refl starts
+    where
+      wire : List ℕ
+      wire = wire_data old.state.settings.text bytes
+
+      N : Stage → SessionValue → Step → Type 0
+      N s v r = MakesStep link coding call (Transferring (Starting (task.Store bytes))) s old v r
+
+      go : (size : Option ℕ) → size_to_send wire ≡ size → StartsStore size wire stage' old new result → N stage' new result
+      go (Some total) fits (is, at, same) =
+          let R : Step → Type 0 = N stage' new in
+          let S : Stage → Type 0 = λ s. N s new Next in
+          let V : SessionValue → Type 0 = λ v. N (Transferring (Sending total total wire)) v Next in
+          subst R (sym is) (subst S (sym at) (subst V (sym same) (store_starts bytes total old may fits)))
+      go None large (is, same) =
+          let R : Step → Type 0 = N stage' new in
+          subst R (sym is) (store_too_large bytes stage' old new large same)
+
   -- all bytes have gone out
-  pub all_sent : (left total : ℕ) (rest : List ℕ) (v : SessionValue) → rest ≡ [] → MayFetch call Whole → MakesStep link coding call (Transferring (Sending left total rest)) (Transferring (ClosingData Whole (Count total))) v v Next
+  pub all_sent : (left total : ℕ) (rest : List ℕ) (v : SessionValue) → rest ≡ [] → MayFetch call Whole → MakesStep link coding call (Transferring (Sending left total rest)) (closing_with Whole (Count total)) v v Next
   all_sent left total rest v none may =
-      let B : List ℕ → Type 0 = λ l. MakesStep link coding call (Transferring (Sending left total l)) (Transferring (ClosingData Whole (Count total))) v v Next in
-      subst B (sym none) (fetch_on link coding call (Sending left total []) (ClosingData Whole (Count total)) v v (unchanged_still link (sending left total [] v.state) (fetch_closing_data Whole (Count total) v.state) v v refl (sym (sending_over left total v.state))) (omega arith) (may, refl))
+      let B : List ℕ → Type 0 = λ l. MakesStep link coding call (Transferring (Sending left total l)) (closing_with Whole (Count total)) v v Next in
+      subst B (sym none) (fetch_on link coding call (Sending left total []) (closing_with Whole (Count total)) v v (unchanged_still link (sending left total [] v.state) (fetch_closing_data Whole (Count total) v.state) v v refl (sym (sending_over left total v.state))) refl (omega arith) (may, refl))
 
   -- no other write is made
   pub none_sent : (left total : ℕ) (rest : List ℕ) (stage' : Stage) (old new : SessionValue) → left ≡ 0 → (rest ≡ [] → ⊥) → new ≡ record old { state = with_abandoned old.state } → MakesStep link coding call (Transferring (Sending left total rest)) stage' old new (Done (Fault (ConnectionError (Io WriteZero))))
@@ -128,7 +155,7 @@ module _ (link : Link) (coding : Coding) (call : Call) where
     wrote_some : (count : ℕ) (all' : List ℕ) (new : SessionValue) → MayFetch call Whole → all' ≡ drop count all → MovesBy link (movement.Write all) old new (came.Wrote count) → MakesStep link coding call (Transferring here) (Transferring (Sending n total all')) old new Next
     wrote_some count all' new may is moves =
         let B : List ℕ → Type 0 = λ l. MakesStep link coding call (Transferring here) (Transferring (Sending n total l)) old new Next in
-        subst B (sym is) (fetch_on link coding call here (Sending n total (drop count all)) old new (written (came.Wrote count) new moves) (omega arith) may)
+        subst B (sym is) (fetch_on link coding call here (Transferring (Sending n total (drop count all))) old new (written (came.Wrote count) new moves) refl (omega arith) may)
 
     wrote_none : (kind : ErrorKind) (stage' : Stage) (mid new : SessionValue) → MovesBy link (movement.Write all) old mid (came.Failed kind) → new ≡ record mid { state = with_abandoned mid.state } → MakesStep link coding call (Transferring here) stage' old new (Done (Fault (ConnectionError (Io kind))))
     wrote_none kind stage' mid new moves same = gives_up here stage' (ConnectionError (Io kind)) old mid new (written (came.Failed kind) mid moves) same

@@ -5,7 +5,7 @@ use Rattle.futures.specs.declared.task.Poll.TheVariants as poll
 use Rattle.ftp_base.specs.declared.command.Command.{Command}
 use Rattle.ftp_base.specs.declared.types.reply.Response.{Response}
 use Rattle.ftp_base.specs.declared.types.fault.FtpError.{FtpError}
-use Rattle.ftp_base.specs.declared.types.fault.FtpError.TheVariants.{ConnectionError, SecureError, UnexpectedResponse, BadResponse, InvalidAddress, DataConnectionAlreadyOpen, OutOfMemory, SessionFailed}
+use Rattle.ftp_base.specs.declared.types.fault.FtpError.TheVariants.{ConnectionError, SecureError, DataConnectionAlreadyOpen, OutOfMemory, SessionFailed}
 use Rattle.ftp_base.specs.declared.types.fault.ConnectionError.{ConnectionError as Cause}
 use Rattle.ftp_base.specs.declared.types.fault.ConnectionError.TheVariants.{Io}
 use Rattle.ftp_calls.specs.declared.exchange.Ending.{Ending}
@@ -23,7 +23,10 @@ use Rattle.ftp_calls.specs.declared.exchange.Turn.{Turn}
 use Rattle.ftp_calls.specs.declared.exchange.Turn.TheVariants.{First, Second, Passive, ExtendedPassive, Active, Restart, Closed, Aborted}
 use Rattle.ftp_dialogue.specs.declared.stage.Awaits.{Awaits}
 use Rattle.ftp_dialogue.specs.declared.stage.Stage.{Stage}
-use Rattle.ftp_dialogue.specs.declared.stage.Stage.TheVariants.{At, Saying, Hearing, Arming, Resyncing, OpeningData, Closing, Aborting, Transferring}
+use Rattle.ftp_dialogue.specs.declared.stage.Stage.TheVariants.{At, Composing, Saying, Hearing, Seeking, SettingOffset, OpeningData, Transferring, Closing}
+use Rattle.ftp_dialogue.specs.declared.stage.AfterLine.TheVariants.{Hears as HearsThen, Recovers}
+use Rattle.ftp_dialogue.specs.declared.stage.AfterClose.TheVariants.{Finishes, Aborts as AbortsThen, Fetched as FetchedAll}
+use Rattle.ftp_dialogue.specs.declared.stage.Recovery.TheVariants.{Abort, Resync}
 use Rattle.ftp_dialogue.specs.declared.stage.Step.{Step}
 use Rattle.ftp_dialogue.specs.declared.stage.Step.TheVariants.{Next, Pending, Done}
 use Rattle.ftp_dialogue.specs.State.{SessionValue, LetsGo}
@@ -44,8 +47,8 @@ use Rattle.ftp_dialogue.specs.Promises.{DrainsIf, PlaysAlone, due_of, AbortsRead
 use Rattle.ftp_control.specs.Channel.{untaken}
 use Rattle.ftp_dialogue.specs.Resuming.{Resumes, modes_of}
 use Rattle.ftp_dialogue.specs.Steps.Polls.{entered_at, entered_state, entered_tree, is_first}
-use Rattle.ftp_dialogue.specs.Steps.Stages.{NotBegun, is_later, remaining, awaited, begun_at, StageOf, line_of}
-use Rattle.ftp_dialogue.specs.Steps.Moving.{Moves, Advances, Ends, Steps, PollSteps, Hears, BeginsExchange, Concludes, Made, NothingTouched, NothingYet, Quiet, Still, HasBegun, HeardFault, BeginsHere, EndsFaulty, FaultLeaves, FaultLeavesIf, Speaks, Takes, Tracks, takes_memory, withheld, after_fault}
+use Rattle.ftp_dialogue.specs.Steps.Stages.{MayAnswer, NotBegun, StageAfter, StageOf, StepAnswers, awaited, begun_at, is_later, line_of, nodes_from, nodes_left, remaining}
+use Rattle.ftp_dialogue.specs.Steps.Moving.{Moves, Advances, Ends, Steps, PollSteps, Hears, BeginsExchange, Concludes, Made, MakesStep, NothingTouched, NothingYet, Quiet, Still, HasBegun, HeardFault, BeginsHere, EndsFaulty, FaultLeaves, FaultLeavesIf, Speaks, Takes, Tracks, takes_memory, withheld, after_fault}
 use Rattle.ftp_dialogue.proofs.Moving.{advances_on, leads_on, leaf_ends, refused_line, lacks_memory_first, lacks_memory_at, stays_put, ends_on, aborts_on, said_or_taken_on, untouched, untouched_after}
 use Rattle.ftp_dialogue.proofs.NegotiationLemmas.{still_on, unchanged_still}
 use Rattle.ftp_dialogue.specs.Link.{Link}
@@ -66,32 +69,12 @@ line_refused link coding (Some command) cause next v is =
 -- a row whose line is refused
 row_refused : (link : Link) (coding : Coding) (row : Row) (cause : Cause) (later : State → Tree) (v : SessionValue) → line_of coding (says_of row) ≡ Err cause → Ends link (doing coding row v.state later) (Fault (ConnectionError cause)) v v
 row_refused link coding (Exchanges e) cause later v is = line_refused link coding e.says cause (awaiting coding (expected_of e.hears) e.ending v.state later) v is
-row_refused link coding (Arms offset) cause later v is = let clash : Ok [] ≡ Err cause = is in cc
-row_refused link coding Resyncs cause later v is = let clash : Ok [] ≡ Err cause = is in cc
-row_refused link coding (Sets setting) cause later v is = let clash : Ok [] ≡ Err cause = is in cc
-row_refused link coding (row.Moves movement) cause later v is = let clash : Ok [] ≡ Err cause = is in cc
+row_refused link coding other cause later v is = let clash : Ok [] ≡ Err cause = is in cc
 
 -- where an exchange doesn't begin since memory ran out the state stays, since no reply of an abort is awaited
 fault_stays : (ending : Ending) (state : State) → is_aborting ending ≡ false → after_fault_of ending OutOfMemory state ≡ state
-fault_stays ending.Done state none = refl
-fault_stays ending.GivesReply state none = refl
-fault_stays ending.TakesReply state none = refl
-fault_stays ending.Greets state none = refl
-fault_stays ending.GivesPath state none = refl
-fault_stays ending.GivesSecondLine state none = refl
-fault_stays ending.GivesTime state none = refl
-fault_stays ending.GivesSize state none = refl
-fault_stays ending.GivesFeatures state none = refl
-fault_stays (ending.SetsText text) state none = refl
-fault_stays (ending.GoesOn status) state none = refl
-fault_stays ending.Continues state none = refl
-fault_stays ending.GivesAddress state none = refl
-fault_stays (ending.GivesPort tries) state none = refl
-fault_stays (ending.Opens replies) state none = refl
-fault_stays (ending.Performs task) state none = refl
-fault_stays (ending.Finishes close) state none = refl
-fault_stays ending.Drains state none = refl
 fault_stays ending.Stops state none = let clash : true ≡ false = none in cc
+fault_stays other state none = refl
 
 saying_stays : (coding : Coding) (command : Option Command) (expected : Expected) (ending : Ending) (state : State) (next : State → Tree) → (is_none command && is_aborting ending) ≡ false → state_at (saying coding command (awaiting coding expected ending state next)) OutOfMemory state ≡ state
 saying_stays coding None expected ending state next none = fault_stays ending state none
@@ -120,35 +103,17 @@ row_stays coding (row.Moves m) next state none = carrying_stays m state
 
 -- an accepted reply whose answer takes memory is the last
 accepted_unheard : (coding : Coding) (ending : Ending) (state other : State) (reply : Response) (next : State → Tree) → takes_memory ending ≡ true → state_at (accepted coding ending state reply next) OutOfMemory other ≡ other
-accepted_unheard coding ending.Done state other reply next takes = let clash : false ≡ true = takes in cc
-accepted_unheard coding ending.GivesReply state other reply next takes = let clash : false ≡ true = takes in cc
-accepted_unheard coding ending.TakesReply state other reply next takes = let clash : false ≡ true = takes in cc
 accepted_unheard coding ending.Greets state other reply next takes = refl
 accepted_unheard coding ending.GivesPath state other reply next takes = refl
 accepted_unheard coding ending.GivesSecondLine state other reply next takes = refl
-accepted_unheard coding ending.GivesTime state other reply next takes = let clash : false ≡ true = takes in cc
-accepted_unheard coding ending.GivesSize state other reply next takes = let clash : false ≡ true = takes in cc
 accepted_unheard coding ending.GivesFeatures state other reply next takes = refl
-accepted_unheard coding (ending.SetsText text) state other reply next takes = let clash : false ≡ true = takes in cc
-accepted_unheard coding (ending.GoesOn status) state other reply next takes = let clash : false ≡ true = takes in cc
-accepted_unheard coding ending.Continues state other reply next takes = let clash : false ≡ true = takes in cc
-accepted_unheard coding ending.GivesAddress state other reply next takes = let clash : false ≡ true = takes in cc
-accepted_unheard coding (ending.GivesPort tries) state other reply next takes = let clash : false ≡ true = takes in cc
-accepted_unheard coding (ending.Opens replies) state other reply next takes = let clash : false ≡ true = takes in cc
-accepted_unheard coding (ending.Performs task) state other reply next takes = let clash : false ≡ true = takes in cc
-accepted_unheard coding (ending.Finishes close) state other reply next takes = let clash : false ≡ true = takes in cc
-accepted_unheard coding ending.Drains state other reply next takes = let clash : false ≡ true = takes in cc
-accepted_unheard coding ending.Stops state other reply next takes = let clash : false ≡ true = takes in cc
+accepted_unheard coding another state other reply next takes = let clash : false ≡ true = takes in cc
 
 -- an exchange that doesn't begin
 pub refused_ends : (link : Link) (coding : Coding) (call : Call) (turn : Turn) (fault : FtpError) (v : SessionValue) → v.channel.failed ≡ false → NotBegun coding (row_of call turn) fault → Ends link (from_turn coding call turn v.state) (Fault fault) v (after_fault (is_later turn) fault v) ⊎ Aborts link (is_later turn) (from_turn coding call turn v.state) (Fault fault) v (after_fault (is_later turn) fault v)
 refused_ends link coding call turn (ConnectionError cause) v going is =
     inl (row_refused link coding (row_of call turn) cause (later coding call turn) v is.0)
 refused_ends link coding call turn (SecureError text) v going is = absurd is.0
-refused_ends link coding call turn (UnexpectedResponse reply) v going is = absurd is.0
-refused_ends link coding call turn BadResponse v going is = absurd is.0
-refused_ends link coding call turn InvalidAddress v going is = absurd is.0
-refused_ends link coding call turn DataConnectionAlreadyOpen v going is = absurd is.0
 refused_ends link coding call turn OutOfMemory v going is =
     let tree = from_turn coding call turn v.state in
     inr (elim (is_later turn) as (λ b. Aborts link b tree (Fault OutOfMemory) v (after_fault b OutOfMemory v)) [
@@ -156,9 +121,10 @@ refused_ends link coding call turn OutOfMemory v going is =
       | false ↦ lacks_memory_first link tree v
     ])
 refused_ends link coding call turn SessionFailed v going is = absurd is.0
+refused_ends link coding call turn other v going is = absurd is.0
 
 -- an exchange begins
-pub exchange_begins : (link : Link) (coding : Coding) (call : Call) (turn : Turn) (stage' : Stage) (old new : SessionValue) (step : Step) → old.channel.failed ≡ false → BeginsExchange coding call turn stage' old new step → Steps link (is_later turn) (from_turn coding call turn old.state) (remaining coding call old.state stage') old new step
+exchange_begins : (link : Link) (coding : Coding) (call : Call) (turn : Turn) (stage' : Stage) (old new : SessionValue) (step : Step) → old.channel.failed ≡ false → BeginsExchange coding call turn stage' old new step → Steps link (is_later turn) (from_turn coding call turn old.state) (remaining coding call old.state stage') old new step
 exchange_begins link coding call turn stage' old new Next going begins =
     let P : SessionValue → Type 0 = λ v. Advances link (from_turn coding call turn old.state) (remaining coding call old.state stage') old v in
     subst P (sym begins.0) (stays_put link (from_turn coding call turn old.state) (remaining coding call old.state stage') old (begins.1.same old.state))
@@ -175,7 +141,7 @@ begun_is_quiet link coding call stage stage' old new Next goes = λ none. let cl
 begun_is_quiet link coding call stage stage' old new Pending goes = tt
 begun_is_quiet link coding call stage stage' old new (Done answer) goes = tt
 
-pub exchange_is_quiet : (link : Link) (coding : Coding) (call : Call) (turn : Turn) (stage' : Stage) (old new : SessionValue) (step : Step) → BeginsExchange coding call turn stage' old new step → Quiet link coding call (At turn) stage' old new step
+exchange_is_quiet : (link : Link) (coding : Coding) (call : Call) (turn : Turn) (stage' : Stage) (old new : SessionValue) (step : Step) → BeginsExchange coding call turn stage' old new step → Quiet link coding call (At turn) stage' old new step
 exchange_is_quiet link coding call turn stage' old new Next begins = λ begun.
     let is : remaining coding call old.state stage' ≡ from_turn coding call turn old.state = begins.1.same old.state in
     record {
@@ -187,12 +153,57 @@ exchange_is_quiet link coding call turn stage' old new Next begins = λ begun.
 exchange_is_quiet link coding call turn stage' old new Pending begins = tt
 exchange_is_quiet link coding call turn stage' old new (Done answer) begins = tt
 
-pub exchange_tracks : (link : Link) (coding : Coding) (call : Call) (turn : Turn) (stage' : Stage) (tree : Tree) (old new : SessionValue) (step : Step) → BeginsExchange coding call turn stage' old new step → Tracks link (is_later turn) (begun_at stage') tree old new step
+exchange_tracks : (link : Link) (coding : Coding) (call : Call) (turn : Turn) (stage' : Stage) (tree : Tree) (old new : SessionValue) (step : Step) → BeginsExchange coding call turn stage' old new step → Tracks link (is_later turn) (begun_at stage') tree old new step
 exchange_tracks link coding call turn stage' tree old new Next begins =
     let P : SessionValue → Type 0 = λ v. NothingTouched link old v in
     (λ has. inl (sym begins.1.begun ∙ has), λ none. (sym begins.1.begun ∙ none, subst P (sym begins.0) (untouched link old)))
 exchange_tracks link coding call turn stage' tree old new Pending begins = absurd begins
 exchange_tracks link coding call turn stage' tree old new (Done answer) begins = tt
+
+exchange_answers : (coding : Coding) (call : Call) (turn : Turn) (stage' : Stage) (result : Step) (old new : SessionValue) → BeginsExchange coding call turn stage' old new result → StepAnswers call result
+exchange_answers coding call turn stage' (Done answer) old new refused =
+    let A : Answer → Type 0 = λ a. MayAnswer call a in
+    subst A (sym refused.is) (First, inr tt, tt)
+exchange_answers coding call turn stage' other old new begins = tt
+
+exchange_stage : (coding : Coding) (call : Call) (turn : Turn) (stage' : Stage) (result : Step) (old new : SessionValue) → BeginsExchange coding call turn stage' old new result → StageAfter call stage' result
+exchange_stage coding call turn stage' Next old new begins = begins.1.stage_of
+exchange_stage coding call turn stage' Pending old new begins = absurd begins
+exchange_stage coding call turn stage' (Done answer) old new refused = tt
+
+exchange_fewer : (coding : Coding) (call : Call) (turn : Turn) (stage' : Stage) (result : Step) (old new : SessionValue) → BeginsExchange coding call turn stage' old new result → result ≡ Next → nodes_left stage' < nodes_from turn
+exchange_fewer coding call turn stage' Next old new begins is = begins.1.fewer
+exchange_fewer coding call turn stage' Pending old new begins is = absurd begins
+exchange_fewer coding call turn stage' (Done answer) old new refused is = let clash : Done answer ≡ Next = is in cc
+
+pub exchange_makes : (link : Link) (coding : Coding) (call : Call) (turn : Turn) (stage' : Stage) (result : Step) (old new : SessionValue) → old.channel.failed ≡ false → BeginsExchange coding call turn stage' old new result → MakesStep link coding call (At turn) stage' old new result
+exchange_makes link coding call turn stage' result old new going begins = record {
+  steps = exchange_begins link coding call turn stage' old new result going begins;
+  quiet = exchange_is_quiet link coding call turn stage' old new result begins;
+  begun = exchange_tracks link coding call turn stage' (from_turn coding call turn old.state) old new result begins;
+  answers = exchange_answers coding call turn stage' result old new begins;
+  fewer = exchange_fewer coding call turn stage' result old new begins;
+  stage_of = exchange_stage coding call turn stage' result old new begins;
+}
+
+-- it never waits, and nothing is done beside the control connection
+pub exchange_goes : (coding : Coding) (call : Call) (turn : Turn) (stage' : Stage) (result : Step) (old new : SessionValue) → BeginsExchange coding call turn stage' old new result → result ≡ Pending → ⊥
+exchange_goes coding call turn stage' Next old new begins is = cc is
+exchange_goes coding call turn stage' Pending old new begins is = begins
+exchange_goes coding call turn stage' (Done answer) old new refused is = cc is
+
+pub fault_apart : (begun : Bool) (fault : FtpError) (v : SessionValue) → ((after_fault begun fault v).net ≡ v.net) × ((after_fault begun fault v).channel.ended ≡ v.channel.ended)
+fault_apart begun fault v = elim (wants_memory fault && begun) as (λ b. ((cond b (failed_from v) v).net ≡ v.net) × ((cond b (failed_from v) v).channel.ended ≡ v.channel.ended)) [
+  | true ↦ (refl, refl)
+  | false ↦ (refl, refl)
+]
+
+pub exchange_apart : (coding : Coding) (call : Call) (turn : Turn) (stage' : Stage) (result : Step) (old new : SessionValue) → BeginsExchange coding call turn stage' old new result → (new.net ≡ old.net) × (new.channel.ended ≡ old.channel.ended)
+exchange_apart coding call turn stage' Next old new begins = (ap (λ v. v.net) begins.0, ap (λ v. v.channel.ended) begins.0)
+exchange_apart coding call turn stage' Pending old new begins = absurd begins
+exchange_apart coding call turn stage' (Done answer) old new refused =
+    let apart = fault_apart (is_later turn) refused.fault old in
+    (ap (λ v. v.net) refused.leaves ∙ apart.0, ap (λ v. v.channel.ended) refused.leaves ∙ apart.1)
 
 -- A reply is heard
 
@@ -227,14 +238,8 @@ accepted_begins link coding call a reply stage' old mid new Pending takes on don
 accepted_begins link coding call a reply stage' old mid new (Done answer) takes on done = tt
 
 pub not_memory : (fault : FtpError) → (fault ≡ OutOfMemory → ⊥) → wants_memory fault ≡ false
-not_memory (ConnectionError cause) other = refl
-not_memory (SecureError text) other = refl
-not_memory (UnexpectedResponse reply) other = refl
-not_memory BadResponse other = refl
-not_memory InvalidAddress other = refl
-not_memory DataConnectionAlreadyOpen other = refl
 not_memory OutOfMemory other = absurd (other refl)
-not_memory SessionFailed other = refl
+not_memory another other = refl
 
 -- a read that ends with an error
 module _ (link : Link) (coding : Coding) (codes : Expected) (ending : Ending) (later : State → Tree) (begun : Bool) (fault : FtpError) (told : Answer) (old mid new : SessionValue) (going : old.channel.failed ≡ false) where
@@ -408,14 +413,19 @@ read_is_quiet call (At (ExtendedPassive offset tries)) stage_of read = refl
 read_is_quiet call (At (Active address offset)) stage_of read = refl
 read_is_quiet call (At (Restart offset)) stage_of read = let clash : true ≡ false = sym read ∙ read_opens_none call stage_of in cc
 read_is_quiet call (At (Closed close)) stage_of read = refl
-read_is_quiet call Closing stage_of read = refl
 read_is_quiet call (At Aborted) stage_of read = let clash : true ≡ false = sym read ∙ finishing_no_read call (aborts_finish call stage_of) in cc
-read_is_quiet call (Aborting abort) stage_of read = let clash : true ≡ false = sym read ∙ finishing_no_read call (aborts_finish call stage_of) in cc
-read_is_quiet call (Transferring fetching) stage_of read = let clash : true ≡ false = sym read ∙ read_opens_none call (fetch_opens call fetching stage_of) in cc
-read_is_quiet call (Saying line a) stage_of read = let clash : true ≡ false = sym read ∙ stage_of.1 in cc
-read_is_quiet call (Arming turn offset) stage_of read = later_none call turn (λ later. later_is_no_read call turn stage_of.1 later) read
-read_is_quiet call (Resyncing turn seeks) stage_of read = let clash : true ≡ false = sym read ∙ resync_unread call turn stage_of.0 stage_of.1 in cc
+read_is_quiet call (Composing Abort) stage_of read = refl
+read_is_quiet call (Composing (Resync turn)) stage_of read = let clash : true ≡ false = sym read ∙ resync_unread call turn stage_of.0 stage_of.1 in cc
+read_is_quiet call (Saying line (HearsThen a)) stage_of read = let clash : true ≡ false = sym read ∙ stage_of.1 in cc
+read_is_quiet call (Saying line (Recovers Abort)) stage_of read = let clash : true ≡ false = sym read ∙ finishing_no_read call (aborts_finish call stage_of) in cc
+read_is_quiet call (Saying line (Recovers (Resync turn))) stage_of read = let clash : true ≡ false = sym read ∙ resync_unread call turn stage_of.0 stage_of.1 in cc
+read_is_quiet call (Seeking turn left) stage_of read = let clash : true ≡ false = sym read ∙ resync_unread call turn stage_of.0 stage_of.1 in cc
+read_is_quiet call (SettingOffset turn offset) stage_of read = later_none call turn (λ later. later_is_no_read call turn stage_of.1 later) read
 read_is_quiet call (OpeningData way) stage_of read = let clash : true ≡ false = sym read ∙ read_opens_none call stage_of.0 in cc
+read_is_quiet call (Transferring fetching) stage_of read = let clash : true ≡ false = sym read ∙ read_opens_none call (fetch_opens call fetching stage_of) in cc
+read_is_quiet call (Closing Finishes) stage_of read = refl
+read_is_quiet call (Closing AbortsThen) stage_of read = let clash : true ≡ false = sym read ∙ finishing_no_read call (aborts_finish call stage_of) in cc
+read_is_quiet call (Closing (FetchedAll form answer)) stage_of read = let clash : true ≡ false = sym read ∙ read_opens_none call stage_of.0.0 in cc
 read_is_quiet call (Hearing a) stage_of read = go a.begun refl
   where
     go : (b : Bool) → a.begun ≡ b → a.begun ≡ false

@@ -141,11 +141,6 @@ accepted_leaf coding ending.Done state reply plain = (Unit, state, refl)
 accepted_leaf coding ending.GivesReply state reply plain = (Reply reply, state, refl)
 accepted_leaf coding ending.TakesReply state reply plain = (Reply reply, _, refl)
 accepted_leaf coding ending.Greets state reply plain = (Unit, _, refl)
-accepted_leaf coding ending.GivesPath state reply plain = (_, state, refl)
-accepted_leaf coding ending.GivesSecondLine state reply plain = (_, state, refl)
-accepted_leaf coding ending.GivesTime state reply plain = (_, state, refl)
-accepted_leaf coding ending.GivesSize state reply plain = (_, state, refl)
-accepted_leaf coding ending.GivesFeatures state reply plain = (_, state, refl)
 accepted_leaf coding (ending.SetsText text) state reply plain = (Unit, _, refl)
 accepted_leaf coding ending.Continues state reply plain = (Unit, state, refl)
 accepted_leaf coding ending.GivesAddress state reply plain = let clash : true ≡ false = plain in cc
@@ -164,6 +159,7 @@ accepted_leaf coding (ending.GoesOn status) state reply plain = (Unit, state, sa
     same : (b : Bool) → cond b (Leaf Unit state) (Leaf Unit state) ≡ Leaf Unit state
     same true = refl
     same false = refl
+accepted_leaf coding other state reply plain = (_, state, refl)
 
 says_state : (coding : Coding) (command : Option Command) (s t : PlayState) (state : State) → Says coding command s t → Says coding command s (record t { state = state })
 says_state coding None s t state says = says
@@ -228,33 +224,22 @@ module _ (coding : Coding) (call : Call) (answer : Answer) (s t : PlayState) (st
 
   -- what comes after the first exchange
   next : (how : Ending) (reply : Response) (m : PlayState) → agrees how ≡ false → play Any (accepted coding how state reply (later coding call First)) m ≡ Done answer t → ExchangedIf (goes_on_with how reply) coding (row_of call Second) m t
-  next ending.Done reply m plain done = stays m _ _ done
-  next ending.GivesReply reply m plain done = stays m _ _ done
-  next ending.TakesReply reply m plain done = stays m _ _ done
-  next ending.Greets reply m plain done = stays m _ _ done
-  next ending.GivesPath reply m plain done = stays m _ _ done
-  next ending.GivesSecondLine reply m plain done = stays m _ _ done
-  next ending.GivesTime reply m plain done = stays m _ _ done
-  next ending.GivesSize reply m plain done = stays m _ _ done
-  next ending.GivesFeatures reply m plain done = stays m _ _ done
-  next (ending.SetsText text) reply m plain done = stays m _ _ done
   next (ending.GoesOn status) reply m plain done =
       elim (eqb (code_of reply.status) (code_of status)) as (λ b. play Any (cond b (later coding call First state) (Leaf Unit state)) m ≡ Done answer t → ExchangedIf b coding (row_of call Second) m t) [
         | true ↦ λ done. last (row_of call Second) m (second_plain call none) (drains_alike call ∙ undrained) done
         | false ↦ λ done. stays m Unit state done
       ] done
   next ending.Continues reply m plain done = last (row_of call Second) m (second_plain call none) (drains_alike call ∙ undrained) done
-  next ending.GivesAddress reply m plain done = let clash : true ≡ false = plain in cc
-  next (ending.GivesPort tries) reply m plain done = let clash : true ≡ false = plain in cc
-  next (ending.Opens replies) reply m plain done = let clash : true ≡ false = plain in cc
-  next (ending.Performs task) reply m plain done = let clash : true ≡ false = plain in cc
-  next (ending.Finishes close) reply m plain done = stays m _ _ done
-  next ending.Drains reply m plain done = stays m _ _ done
   next ending.Stops reply m plain done =
       elim (eqb (code_of reply.status) (code_of TransferAborted)) as (λ b. play Any (cond b (later coding call First state) (Leaf Unit (with_aborted state))) m ≡ Done answer t → ExchangedIf b coding (row_of call Second) m t) [
         | true ↦ λ done. last (row_of call Second) m (second_plain call none) (drains_alike call ∙ undrained) done
         | false ↦ λ done. stays m Unit (with_aborted state) done
       ] done
+  next ending.GivesAddress reply m plain done = let clash : true ≡ false = plain in cc
+  next (ending.GivesPort tries) reply m plain done = let clash : true ≡ false = plain in cc
+  next (ending.Opens replies) reply m plain done = let clash : true ≡ false = plain in cc
+  next (ending.Performs task) reply m plain done = let clash : true ≡ false = plain in cc
+  next other reply m plain done = stays m _ _ done
 
   -- the first row
   by_row : (r : Row) → row_agrees (ending_of r) ≡ false → draining_row r ≡ false → play Any (doing coding r state (later coding call First)) s ≡ Done answer t → SucceedsBy coding r (row_of call Second) s t
@@ -295,16 +280,13 @@ begun_succeeds coding call s t state rule =
     whole e reply code is = (let P : ReplyRule → Type 0 = λ r. outcome r (expected_of e.hears).form s.bytes s.ended ≡ Whole reply.body code in subst P rule is)
 
     by_row : (r : Row) → SucceedsBy coding r (row_of call Second) (record s { state = state }) t → SucceedsBy coding r (row_of call Second) s t
-    by_row (Arms offset) silent = silent
-    by_row Resyncs silent = silent
-    by_row (Sets setting) silent = silent
-    by_row (Moves moves) silent = silent
     by_row (Exchanges e) two = record {
       reply = two.reply;
       between = two.between;
       first = record { says = says e.says two.between two.first.says; code = two.first.code; whole = whole e two.reply two.first.code two.first.whole; status = two.first.status; accepted = two.first.accepted; consumed = two.first.consumed };
       second = two.second;
     }
+    by_row other silent = silent
 
 -- the calls of a session
 pub wired : (link : Link) (coding : Coding) (call : Call) (old last new : SessionValue) → LetsGo link.tells last new → (answer : Answer) → Completes link (dialogue coding call old.state) answer (begun_by call old) last → IsSuccess answer → Wired link coding call old new

@@ -28,12 +28,12 @@ abbrev pub opens_beside : Call → Owed → Bool
 opens_beside call owed = some_live owed && (negotiates call || resyncs call)
 
 -- replies are due to commands that were dropped, in a session that goes on
-abbrev pub is_late : SessionValue → Bool
-is_late v = not (v.channel.failed || (v.state.unanswered == 0))
+abbrev pub has_dropped_replies : SessionValue → Bool
+has_dropped_replies v = not (v.channel.failed || (v.state.unanswered == 0))
 
 -- and a call reads them first: one that goes over the control connection, but for those that bring a transfer to its end
-abbrev pub is_behind : Call → SessionValue → Bool
-is_behind call v = is_late v && (drains_first call || drains call) && not (opens_beside call v.state.counts.owed)
+abbrev pub reads_dropped_first : Call → SessionValue → Bool
+reads_dropped_first call v = has_dropped_replies v && (drains_first call || drains call) && not (opens_beside call v.state.counts.owed)
 
 -- a plain read reads none of them first but the last one of a transfer that was left: its own reply is one
 abbrev pub is_plain_read : Call → Bool
@@ -138,7 +138,7 @@ InStepIf false link plain ends Makes old new answer = Makes old new answer
 
 -- a call in step: after the replies that are due
 pub record PlaysInStep (link : Link) (coding : Coding) (call : Call) (old new : SessionValue) (answer : Answer) : Type 0 where
-  pub plays : InStepIf (is_behind call old) (unasked link) (is_plain_read call) (drains call) (Plays link coding call) old new answer
+  pub plays : InStepIf (reads_dropped_first call old) (unasked link) (is_plain_read call) (drains call) (Plays link coding call) old new answer
 
 -- a polled read of one reply: where replies are due the unsent tail goes out first, and the last reply of a transfer that was
 -- left is among them
@@ -158,4 +158,4 @@ CatchesUpReadIf true link coding codes old new result = CatchesUpThenReads link 
 CatchesUpReadIf false link coding codes old new result = PollsRead link coding codes old new result
 
 pub record PollsReadInStep (link : Link) (coding : Coding) (codes : Expected) (old new : SessionValue) (result : Poll (Result Response FtpError)) : Type 0 where
-  pub reads : CatchesUpReadIf (is_late old) link coding codes old new result
+  pub reads : CatchesUpReadIf (has_dropped_replies old) link coding codes old new result

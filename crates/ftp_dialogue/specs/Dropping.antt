@@ -1,21 +1,19 @@
 -- A call that waits is dropped: what it leaves. RFC 959, sections 3.2 and 5.4.
-use Rattle.std.specs.Prelude.{◌≡◌, ◌&&◌, Bool, true, false, Some, None, if◌then◌else◌}
+use Rattle.std.specs.Prelude.{◌≡◌, ◌&&◌, Bool, true, false, is_none, if◌then◌else◌}
 use Rattle.ftp_calls.specs.Exchanges.{aborts, finishes, says_at}
 use Rattle.ftp_calls.specs.declared.call.Call.{Call}
 use Rattle.ftp_dialogue.specs.Dialogue.{with_aborted, with_abandoned, with_left}
 use Rattle.ftp_dialogue.specs.State.{LetsGo, SessionValue}
-use Rattle.ftp_dialogue.specs.Steps.Stages.{has_sent, is_out}
+use Rattle.ftp_dialogue.specs.Steps.Stages.{is_out}
 use Rattle.ftp_dialogue.specs.Unanswered.{missed}
 use Rattle.ftp_calls.specs.declared.exchange.Turn.{Turn}
 use Rattle.ftp_calls.specs.declared.exchange.Turn.TheVariants.{Aborted}
-use Rattle.ftp_dialogue.specs.declared.stage.Aborting.TheVariants.{Wording, Sending, ClosingData}
+use Rattle.ftp_dialogue.specs.declared.stage.AfterClose.TheVariants.{Aborts, Fetched}
 use Rattle.ftp_dialogue.specs.declared.stage.OpeningData.{OpeningData}
 use Rattle.ftp_dialogue.specs.declared.stage.OpeningData.TheVariants.{Negotiating, Choosing, Locating, Binding, Asking}
-use Rattle.ftp_dialogue.specs.declared.stage.Resyncing.{Resyncing as Resync}
-use Rattle.ftp_dialogue.specs.declared.stage.Resyncing.TheVariants as resync
 use Rattle.ftp_dialogue.specs.declared.stage.Asking.TheVariants.{PeerPort, Connection, Peer, Accepting, Securing}
 use Rattle.ftp_dialogue.specs.declared.stage.Stage.{Stage}
-use Rattle.ftp_dialogue.specs.declared.stage.Stage.TheVariants.{At, Saying, Hearing, Arming, Resyncing, Closing, Aborting, Transferring}
+use Rattle.ftp_dialogue.specs.declared.stage.Stage.TheVariants.{At, Saying, Hearing, Seeking, Closing, Transferring}
 use Rattle.ftp_dialogue.specs.declared.stage.Stage.TheVariants as stages
 use Rattle.ftp_dialogue.specs.declared.state.State.{State}
 
@@ -36,13 +34,8 @@ awaits_peer (Binding address offset) = false
 abbrev pub owes_last_reply : Stage → Bool
 owes_last_reply (Transferring fetching) = true
 owes_last_reply (stages.OpeningData opening_data) = awaits_peer opening_data
-owes_last_reply (At turn) = false
-owes_last_reply (Saying line awaits) = false
-owes_last_reply (Hearing awaits) = false
-owes_last_reply (Arming turn offset) = false
-owes_last_reply (Resyncing turn seeks) = false
-owes_last_reply Closing = false
-owes_last_reply (Aborting aborting) = false
+owes_last_reply (Closing (Fetched form answer)) = true
+owes_last_reply other = false
 
 -- the transfer that a call was to bring to its end is left, and that of a data command that was accepted is opened and left
 abbrev pub left_by : Call → Stage → State → State
@@ -52,28 +45,15 @@ left_by call stage state = if owes_last_reply stage then with_abandoned state el
 abbrev pub aborted_by : Call → Stage → State → State
 aborted_by call stage state = if aborts call && is_out stage then with_aborted state else state
 
--- NOOP was begun, and its reply is sought
-abbrev pub noop_unanswered : Resync → Bool
-noop_unanswered resync.Wording = false
-noop_unanswered (resync.Sending None) = true
-noop_unanswered (resync.Sending (Some line)) = false
-noop_unanswered (resync.Seeking left) = true
-
--- a line of the call was begun, and its reply hasn't come
-abbrev pub line_unanswered : Call → Stage → Bool
-line_unanswered call (Saying None awaits) = true
-line_unanswered call (Saying (Some line) awaits) = false
-line_unanswered call (Hearing awaits) = says_at call awaits.turn
-line_unanswered call (Resyncing turn seeks) = noop_unanswered seeks
-line_unanswered call other = false
-
--- ABOR was begun
-abbrev pub abort_unanswered : Stage → Bool
-abort_unanswered (Aborting aborting) = has_sent aborting
-abort_unanswered other = is_out other
+-- a line of the call was begun, and its reply hasn't come: of an abort ABOR's, else that of an exchange, or of NOOP
+abbrev pub reply_unread : Call → Stage → Bool
+reply_unread call (Hearing awaits) = says_at call awaits.turn
+reply_unread call (Seeking turn left) = true
+reply_unread call other = false
 
 abbrev pub is_unanswered : Call → Stage → Bool
-is_unanswered call stage = if aborts call then abort_unanswered stage else line_unanswered call stage
+is_unanswered call (Saying line after) = is_none line
+is_unanswered call stage = if aborts call then is_out stage else reply_unread call stage
 
 -- the first reply of ABOR, which has gone out, hasn't come: 426 may be that
 abbrev pub is_abort_turn : Turn → Bool
@@ -83,9 +63,7 @@ is_abort_turn other = false
 abbrev pub awaits_abort : Stage → Bool
 awaits_abort (At turn) = is_abort_turn turn
 awaits_abort (Hearing awaits) = is_abort_turn awaits.turn
-awaits_abort (Aborting Wording) = false
-awaits_abort (Aborting (Sending line)) = false
-awaits_abort (Aborting ClosingData) = true
+awaits_abort (Closing Aborts) = true
 awaits_abort other = false
 
 -- the reply of a command that was begun is due from now on

@@ -23,9 +23,10 @@ use Rattle.ftp_dialogue.specs.Sound.{cannot_open}
 use Rattle.ftp_dialogue.specs.State.{SessionValue}
 use Rattle.ftp_dialogue.specs.Steps.Stages.{MayGive}
 use Rattle.ftp_dialogue.specs.declared.stage.Stage.{Stage}
-use Rattle.ftp_dialogue.specs.declared.stage.Stage.TheVariants.{At, Saying, Hearing, Transferring}
-use Rattle.ftp_dialogue.specs.declared.stage.Transferring.{Transferring as Fetched}
-use Rattle.ftp_dialogue.specs.declared.stage.Transferring.TheVariants.{ClosingData, Ending as LastReply}
+use Rattle.ftp_dialogue.specs.declared.stage.AfterClose.TheVariants.{Fetched}
+use Rattle.ftp_dialogue.specs.declared.stage.AfterLine.TheVariants.{Hears}
+use Rattle.ftp_dialogue.specs.declared.stage.Stage.TheVariants.{At, Saying, Hearing, Transferring, Closing}
+use Rattle.ftp_dialogue.specs.declared.stage.Transferring.TheVariants.{Ending as LastReply}
 
 -- What is kept
 
@@ -43,18 +44,14 @@ abbrev pub kept_at : Turn → Option FtpError
 kept_at (Closed (Some kind)) = Some (Connection (Io kind))
 kept_at other = None
 
--- and so is that of the data of a whole file or listing
-abbrev pub kept_of : Fetched → Option FtpError
-kept_of (ClosingData form answer) = error_of answer
-kept_of (LastReply form answer) = error_of answer
-kept_of other = None
-
--- the error that a call keeps at its stage for its answer; on the way to a data connection it keeps none
+-- the error that a call keeps at its stage for its answer, that of the data of a whole file or listing too; on the way to a
+-- data connection it keeps none
 abbrev pub kept_error : Stage → Option FtpError
 kept_error (At turn) = kept_at turn
-kept_error (Saying line a) = kept_by a.ending
+kept_error (Saying line (Hears a)) = kept_by a.ending
 kept_error (Hearing a) = kept_by a.ending
-kept_error (Transferring fetching) = kept_of fetching
+kept_error (Closing (Fetched form answer)) = error_of answer
+kept_error (Transferring (LastReply form answer)) = error_of answer
 kept_error other = None
 
 -- Why an error is returned

@@ -30,7 +30,7 @@ use Rattle.ftp_calls.specs.declared.call.Answer.TheVariants.{Fault}
 use Rattle.ftp_calls.specs.declared.call.Answer.TheVariants as answers
 use Rattle.ftp_calls.specs.declared.exchange.Turn.TheVariants.{First, Second}
 use Rattle.ftp_calls.specs.declared.exchange.Ending.{Ending}
-use Rattle.ftp_calls.specs.declared.exchange.Ending.TheVariants.{Done, GivesReply, TakesReply, Greets, GivesPath, GivesSecondLine, GivesTime, GivesSize, GivesFeatures, SetsText, GoesOn, Continues, GivesAddress, GivesPort, Opens, Performs, Finishes, Drains, Stops}
+use Rattle.ftp_calls.specs.declared.exchange.Ending.TheVariants.{GoesOn, Continues, GivesAddress, GivesPort, Stops}
 use Rattle.ftp_calls.specs.declared.exchange.Exchange.{Exchange}
 use Rattle.ftp_calls.specs.declared.exchange.Row.{Row}
 use Rattle.ftp_calls.specs.declared.exchange.Row.TheVariants.{Exchanges, Arms, Resyncs, Sets, Moves}
@@ -43,7 +43,7 @@ use Rattle.ftp_dialogue.specs.Coding.{Coding}
 use Rattle.ftp_dialogue.specs.NetEvents.{NetEvent, NetEvents, PartedIs, net_record_of, outcomes_of}
 use Rattle.ftp_dialogue.specs.declared.state.State.{State}
 use Rattle.ftp_calls.specs.Exchanges.{row_of, drains, finishes, is_local, negotiates}
-use Rattle.ftp_dialogue.specs.Dialogue.{Expected, expected_of, Tree, Say, Hear, Look, Ask, Build, Secure, Move, Leaf, dialogue, entered, with_left}
+use Rattle.ftp_dialogue.specs.Dialogue.{Expected, expected_of, Tree, Say, Hear, Look, Leaf, dialogue, entered, with_left}
 use Rattle.ftp_dialogue.specs.Play.{Refusal, Taken, Lacking, Failing, is_due, is_unit, lacks, play, refusal}
 use Rattle.ftp_dialogue.specs.Resuming.{Resumes, modes_of}
 use Rattle.ftp_dialogue.specs.Within.{Within}
@@ -52,19 +52,9 @@ use Rattle.ftp_dialogue.specs.Link.{Link}
 -- What a call that succeeded did on the wire
 
 abbrev pub IsSuccess : Answer → Type 0
-IsSuccess answers.Unit = Unit {0}
-IsSuccess (answers.Reply reply) = Unit {0}
-IsSuccess (answers.Text text) = Unit {0}
-IsSuccess (answers.Time time) = Unit {0}
-IsSuccess (answers.Size size) = Unit {0}
-IsSuccess (answers.Features features) = Unit {0}
-IsSuccess answers.Opened = Unit {0}
-IsSuccess (answers.OpenedWith reply) = Unit {0}
-IsSuccess (answers.Bytes bytes) = Unit {0}
-IsSuccess (answers.Count count) = Unit {0}
-IsSuccess (answers.Lines lines) = Unit {0}
 IsSuccess answers.NoTransfer = ⊥
 IsSuccess (Fault fault) = ⊥
+IsSuccess other = Unit {0}
 
 -- a command's line was said after what was unsent, or nothing was
 abbrev pub Says : Coding → Option Command → PlayState → PlayState → Type 0
@@ -82,25 +72,12 @@ pub record Exchanged (coding : Coding) (exchange : Exchange) (reply : Response) 
 
 -- a reply goes on to the second exchange
 abbrev pub goes_on_with : Ending → Response → Bool
-goes_on_with Done reply = false
-goes_on_with GivesReply reply = false
-goes_on_with TakesReply reply = false
-goes_on_with Greets reply = false
-goes_on_with GivesPath reply = false
-goes_on_with GivesSecondLine reply = false
-goes_on_with GivesTime reply = false
-goes_on_with GivesSize reply = false
-goes_on_with GivesFeatures reply = false
-goes_on_with (SetsText text) reply = false
 goes_on_with (GoesOn status) reply = code_of reply.status == code_of status
 goes_on_with Continues reply = true
 goes_on_with GivesAddress reply = true
 goes_on_with (GivesPort tries) reply = true
-goes_on_with (Opens replies) reply = false
-goes_on_with (Performs task) reply = false
-goes_on_with (Finishes close) reply = false
-goes_on_with Drains reply = false
 goes_on_with Stops reply = code_of reply.status == code_of TransferAborted
+goes_on_with other reply = false
 
 -- nothing was said or consumed
 abbrev pub IsSilent : PlayState → PlayState → Type 0
@@ -125,10 +102,8 @@ pub record ExchangesTwo (coding : Coding) (exchange : Exchange) (next : Row) (s 
 -- a call that succeeded: its first row, and its second where the first is an exchange whose reply goes on
 abbrev pub SucceedsBy : Coding → Row → Row → PlayState → PlayState → Type 0
 SucceedsBy coding (Exchanges exchange) next s t = ExchangesTwo coding exchange next s t
-SucceedsBy coding (Arms offset) next s t = IsSilent s t
 SucceedsBy coding Resyncs next s t = Unit {0}
-SucceedsBy coding (Sets setting) next s t = IsSilent s t
-SucceedsBy coding (Moves movement) next s t = IsSilent s t
+SucceedsBy coding other next s t = IsSilent s t
 
 -- of a call that opens a data connection, or hears the end of a transfer, the dialogue alone says what it did
 abbrev pub SucceedsUnless : Bool → Coding → Call → PlayState → PlayState → Type 0
@@ -140,19 +115,8 @@ Succeeds coding call s t = SucceedsUnless (negotiates call || finishes call || d
 
 -- a call failed
 abbrev pub IsFault : Answer → Type 0
-IsFault answers.Unit = ⊥
-IsFault (answers.Reply reply) = ⊥
-IsFault (answers.Text text) = ⊥
-IsFault (answers.Time time) = ⊥
-IsFault (answers.Size size) = ⊥
-IsFault (answers.Features features) = ⊥
-IsFault answers.Opened = ⊥
-IsFault (answers.OpenedWith reply) = ⊥
-IsFault (answers.Bytes bytes) = ⊥
-IsFault (answers.Count count) = ⊥
-IsFault (answers.Lines lines) = ⊥
-IsFault answers.NoTransfer = ⊥
 IsFault (Fault fault) = Unit {0}
+IsFault other = ⊥
 
 -- an answer that a call may give which is none of the control connection
 abbrev pub IsApart : Answer → Type 0
@@ -200,14 +164,8 @@ pub record Goes (link : Link) (came : List ℕ) (answered : List NetEvent) (old 
 
 -- no reply is read first
 abbrev pub Calm : Tree → Type 0
-Calm (Say line next) = Unit {0}
 Calm (Hear codes next) = ⊥
-Calm (Look end next) = Unit {0}
-Calm (Ask request next) = Unit {0}
-Calm (Build address next) = Unit {0}
-Calm (Secure next) = Unit {0}
-Calm (Move movement next) = Unit {0}
-Calm (Leaf answer state) = Unit {0}
+Calm other = Unit {0}
 
 -- what is kept of a reply afterwards: nothing, as after a whole one; or nothing was read, and what was kept and lay ahead
 -- stays, by its rule
@@ -247,22 +205,12 @@ abbrev pub MayFailAt : Link → Tree → Told → ErrorKind → Type 0
 MayFailAt link (Say line next) told kind = link.tells → link.writes told kind
 MayFailAt link (Hear codes next) told kind = link.reads kind
 MayFailAt link (Look end next) told kind = link.ends kind
-MayFailAt link (Ask request next) told kind = ⊥
-MayFailAt link (Build address next) told kind = ⊥
-MayFailAt link (Secure next) told kind = ⊥
-MayFailAt link (Move movement next) told kind = ⊥
-MayFailAt link (Leaf answer state) told kind = ⊥
+MayFailAt link other told kind = ⊥
 
 -- the session fails where a line or a reply may be lost, and goes on where an address isn't known
 abbrev pub fails_at : Tree → Bool
-fails_at (Say line next) = true
-fails_at (Hear codes next) = true
 fails_at (Look end next) = false
-fails_at (Ask request next) = true
-fails_at (Build address next) = true
-fails_at (Secure next) = true
-fails_at (Move movement next) = true
-fails_at (Leaf answer state) = true
+fails_at other = true
 
 -- what a tree that is over answers, and leaves
 abbrev pub answer_of : Tree → Answer → Answer

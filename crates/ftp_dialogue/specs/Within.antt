@@ -4,7 +4,7 @@ use Rattle.std.specs.declared.net.socket_addr.SocketAddr.{SocketAddr}
 use Rattle.ftp_base.specs.declared.types.reply.Response.{Response}
 use Rattle.ftp_base.specs.declared.types.fault.ConnectionError.TheVariants.{ReplyTooLarge, UnexpectedEof}
 use Rattle.ftp_base.specs.declared.types.fault.FtpError.{FtpError}
-use Rattle.ftp_base.specs.declared.types.fault.FtpError.TheVariants.{ConnectionError, SecureError, UnexpectedResponse, BadResponse, InvalidAddress, DataConnectionAlreadyOpen, OutOfMemory, SessionFailed}
+use Rattle.ftp_base.specs.declared.types.fault.FtpError.TheVariants.{ConnectionError, UnexpectedResponse, BadResponse}
 use Rattle.ftp_transport.specs.declared.request.RequestOutcome.{RequestOutcome}
 use Rattle.ftp_dialogue.specs.declared.model.NetOutcome.{NetOutcome}
 use Rattle.ftp_dialogue.specs.declared.model.NetOutcome.TheVariants.{Answered, Built, Secured}
@@ -14,13 +14,9 @@ use Rattle.ftp_dialogue.specs.Dialogue.{Tree, Say, Hear, Look, Ask, Build, Secur
 -- too large or an end of input
 abbrev pub IsOfBytes : FtpError → Type 0
 IsOfBytes (ConnectionError cause) = (cause ≡ ReplyTooLarge) ⊎ (cause ≡ UnexpectedEof)
-IsOfBytes (SecureError text) = ⊥
 IsOfBytes (UnexpectedResponse reply) = Unit {0}
 IsOfBytes BadResponse = Unit {0}
-IsOfBytes InvalidAddress = ⊥
-IsOfBytes DataConnectionAlreadyOpen = ⊥
-IsOfBytes OutOfMemory = ⊥
-IsOfBytes SessionFailed = ⊥
+IsOfBytes other = ⊥
 
 abbrev pub MayHear : Result Response FtpError → Type 0
 MayHear (Ok reply) = Unit {0}

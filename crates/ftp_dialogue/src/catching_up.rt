@@ -8,7 +8,7 @@
 ghost use Rattle.std.specs.Prelude.{◌≡◌, ◌⊎◌, true, false};
 ghost use Rattle.futures.specs.declared.task.Poll.TheVariants as poll;
 ghost use Rattle.ftp_calls.specs.Exchanges.{drains, is_local, negotiates, of_transfer};
-ghost use Rattle.ftp_dialogue.specs.CatchingUp.{CatchesUp, Flushes, InStepIf, PollsReadInStep, ReadsDue, TellsFault, fault_told, is_behind, is_caught_up, is_late, is_plain_read, told_of_line};
+ghost use Rattle.ftp_dialogue.specs.CatchingUp.{CatchesUp, Flushes, InStepIf, PollsReadInStep, ReadsDue, TellsFault, fault_told, reads_dropped_first, is_caught_up, has_dropped_replies, is_plain_read, told_of_line};
 ghost use Rattle.ftp_dialogue.specs.Coding.{coding_of};
 ghost use Rattle.ftp_dialogue.specs.Dialogue.{expecting};
 ghost use Rattle.ftp_dialogue.specs.Link.{asking, blocking, polling};
@@ -19,7 +19,7 @@ ghost use Rattle.ftp_dialogue.specs.Steps.Moving.{MadeDrained};
 ghost use Rattle.ftp_dialogue.specs.Steps.Stages.{MayAnswer};
 ghost use Rattle.ftp_dialogue.specs.Unanswered.{most_commands};
 
-use super::asks::{Asks, Nothing};
+use super::data_path::{DataPath, NoData};
 use super::draining::drained;
 use super::machine::Machine;
 use super::{Answer, Call, Owed};
@@ -34,8 +34,8 @@ use std::alloc::Global;
 impl<Tr: Network> Machine<Tr> {
     /// Whether replies are due to commands that were dropped, which a call reads first. That is so of each that goes over the
     /// control connection, but of those that bring a transfer to its end, and of those that would open one beside a live one.
-    pub fn is_behind(&self, call: &Call) -> bool
-        ensures { result ≡ is_behind call.now self.now }
+    pub fn reads_dropped_first(&self, call: &Call) -> bool
+        ensures { result ≡ reads_dropped_first call.now self.now }
     {
         if self.channel.failed() || self.state.unanswered == 0 {
             return false;
@@ -47,7 +47,7 @@ impl<Tr: Network> Machine<Tr> {
     /// Polls the replies that are due to commands that were dropped, after the unsent tail of a line; before a plain
     /// read the last reply of a transfer that was left alone. One that waits may be dropped, and polled again. An error in
     /// place of a reply is returned, and counted where it is one that can't be read.
-    pub fn poll_catch_up<W>(
+    pub fn poll_dropped_replies<W>(
         &mut self,
         alloc: Global,
         call: &Call,
@@ -60,11 +60,11 @@ impl<Tr: Network> Machine<Tr> {
         ensures catches_up { CatchesUp (polling Tr.Conn.PollConn) (is_plain_read call.now) self.old
             self.new result }
     {
-        self.poll_caught_up(alloc, is_read(call) && !drains(call), w)
+        self.poll_dropped(alloc, is_read(call) && !drains(call), w)
     }
 
     /// Polls the replies that are due, after the unsent tail of a line; those before a plain read, or all.
-    fn poll_caught_up<W>(&mut self, alloc: Global, plain: bool, w: &mut W) -> Poll<Option<FtpError>>
+    fn poll_dropped<W>(&mut self, alloc: Global, plain: bool, w: &mut W) -> Poll<Option<FtpError>>
     where
         Tr::Conn: PollConn<W>,
         requires going { self.old.channel.failed ≡ false }
@@ -82,9 +82,9 @@ impl<Tr: Network> Machine<Tr> {
 
     /// Makes a call in step: after the replies that are due to commands that were dropped, where it reads them first.
     /// An error of such a read is returned, and the call isn't made; else the answer is that of `call`.
-    pub fn call_in_step<E: Encoding, A: Asks<Tr, NeverWaits>>(
+    pub fn call_in_step<E: Encoding, A: DataPath<Tr, NeverWaits>>(
         &mut self,
-        asker: &A,
+        data_path: &A,
         alloc: Global,
         encoding: &E,
         call: &Call,
@@ -96,20 +96,20 @@ impl<Tr: Network> Machine<Tr> {
         requires blocks { A.may_wait → ⊥ }
         requires unheld { of_transfer call.now ≡ false }
         ensures answers { MayAnswer call.now result }
-        ensures made { InStepIf (is_behind call.now self.old) (blocking Tr.Conn.Conn) (is_plain_read
+        ensures made { InStepIf (reads_dropped_first call.now self.old) (blocking Tr.Conn.Conn) (is_plain_read
             call.now) (drains call.now)
-            (MadeDrained (asking (A.builds asker.now) A.may_wait (blocking Tr.Conn.Conn)) (coding_of
+            (MadeDrained (asking (A.builds data_path.now) A.may_wait (blocking Tr.Conn.Conn)) (coding_of
             E.decoded E.encoded encoding.now) call.now)
             self.old self.new result }
     {
-        if self.is_behind(call) {
-            match self.poll_catch_up(alloc, call, &mut NeverWaits) {
+        if self.reads_dropped_first(call) {
+            match self.poll_dropped_replies(alloc, call, &mut NeverWaits) {
                 Poll::Ready(None) => {}
                 Poll::Ready(Some(fault)) => return Answer::Fault(fault),
                 Poll::Pending => unreachable!(),
             }
         }
-        self.call(asker, alloc, encoding, call)
+        self.call(data_path, alloc, encoding, call)
     }
 
     /// Reads the last reply of a transfer that was left, and those that are due to commands that were dropped: where some are,
@@ -118,19 +118,19 @@ impl<Tr: Network> Machine<Tr> {
     where
         Tr::Conn: Conn,
         requires left { none_left self.old.state.counts.owed ≡ false }
-        ensures made { InStepIf (is_behind Call.Drain self.old) (blocking Tr.Conn.Conn) false true
+        ensures made { InStepIf (reads_dropped_first Call.Drain self.old) (blocking Tr.Conn.Conn) false true
             (MadeDrained (blocking Tr.Conn.Conn) (coding_of E.decoded E.encoded encoding.now)
             Call.Drain)
             self.old self.new (drain_told result) }
     {
-        if self.is_behind(&Call::Drain) {
-            return match self.poll_catch_up(alloc, &Call::Drain, &mut NeverWaits) {
+        if self.reads_dropped_first(&Call::Drain) {
+            return match self.poll_dropped_replies(alloc, &Call::Drain, &mut NeverWaits) {
                 Poll::Ready(None) => Ok(()),
                 Poll::Ready(Some(fault)) => Err(fault),
                 Poll::Pending => unreachable!(),
             };
         }
-        drained(self.call_alone(&Nothing, alloc, encoding, &Call::Drain))
+        drained(self.call_alone(&NoData, alloc, encoding, &Call::Drain))
     }
 
     /// Polls a read of one reply whose status is among the expected. Where replies are due to commands that were
@@ -156,8 +156,8 @@ impl<Tr: Network> Machine<Tr> {
             encoding.now) (expecting expected.now)
             self.old self.new result }
     {
-        if self.is_late() {
-            match self.poll_caught_up(alloc, true, w) {
+        if self.has_dropped_replies() {
+            match self.poll_dropped(alloc, true, w) {
                 Poll::Ready(None) => {}
                 Poll::Ready(Some(fault)) => return Poll::Ready(Err(fault)),
                 Poll::Pending => return Poll::Pending,
@@ -167,8 +167,8 @@ impl<Tr: Network> Machine<Tr> {
     }
 
     /// Whether replies are due to commands that were dropped, in a session that goes on.
-    fn is_late(&self) -> bool
-        ensures { result ≡ is_late self.now }
+    fn has_dropped_replies(&self) -> bool
+        ensures { result ≡ has_dropped_replies self.now }
     {
         !self.channel.failed() && self.state.unanswered > 0
     }

@@ -16,7 +16,7 @@ ghost use Rattle.ftp_dialogue.specs.Reading.{PollsDrain, PollsRead, ReadsAlone, 
 ghost use Rattle.ftp_dialogue.specs.Steps.Moving.{MadeDrained};
 ghost use Rattle.ftp_dialogue.specs.Steps.Stages.{MayAnswer};
 
-use super::asks::{Asks, Nothing};
+use super::data_path::{DataPath, NoData};
 use super::machine::Machine;
 use super::{Answer, Call, Owed};
 use ftp_base::encoding::Encoding;
@@ -40,9 +40,9 @@ impl<Tr: Network> Machine<Tr> {
 
     /// Makes a call, whole, after the last reply of a transfer that was left, where one is due. An error of that
     /// reply's read is returned, and the call isn't made; else the answer is that of `call_alone`.
-    pub fn call<E: Encoding, A: Asks<Tr, NeverWaits>>(
+    pub fn call<E: Encoding, A: DataPath<Tr, NeverWaits>>(
         &mut self,
-        asker: &A,
+        data_path: &A,
         alloc: Global,
         encoding: &E,
         call: &Call,
@@ -53,17 +53,17 @@ impl<Tr: Network> Machine<Tr> {
         requires channel { is_local call.now ≡ false }
         requires blocks { A.may_wait → ⊥ }
         ensures answers { of_transfer call.now ≡ false → MayAnswer call.now result }
-        ensures made { MadeDrained (asking (A.builds asker.now) A.may_wait (blocking Tr.Conn.Conn))
+        ensures made { MadeDrained (asking (A.builds data_path.now) A.may_wait (blocking Tr.Conn.Conn))
             (coding_of E.decoded E.encoded encoding.now) call.now
             self.old self.new result }
     {
         if self.is_due(call) {
-            let first = self.call_alone(asker, alloc, encoding, &Call::Drain);
+            let first = self.call_alone(data_path, alloc, encoding, &Call::Drain);
             if let Some(answer) = unless_unit(first) {
                 return answer;
             }
         }
-        self.call_alone(asker, alloc, encoding, call)
+        self.call_alone(data_path, alloc, encoding, call)
     }
 
     /// Polls a read of one reply whose status is among the expected, after the last reply of a transfer that was left,
@@ -121,7 +121,7 @@ impl<Tr: Network> Machine<Tr> {
             self.old self.new result }
     {
         let mut stage = self.enter(&Call::Drain);
-        match self.poll_call(&Nothing, alloc, encoding, &Call::Drain, &mut stage, w) {
+        match self.poll_call(&NoData, alloc, encoding, &Call::Drain, &mut stage, w) {
             Poll::Ready(answer) => {
                 drop(stage);
                 self.let_go();
@@ -152,7 +152,7 @@ impl<Tr: Network> Machine<Tr> {
         if self.channel.failed() {
             return Poll::Ready(Err(FtpError::SessionFailed));
         }
-        let heard = self.hear(&Nothing, alloc, expected, w);
+        let heard = self.hear(&NoData, alloc, expected, w);
         self.count_heard(&heard);
         heard
     }

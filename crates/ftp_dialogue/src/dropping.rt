@@ -4,12 +4,12 @@
 //! kept. A transfer that the call held is left, so that its last reply is read before the next command.
 
 ghost use Rattle.std.specs.Prelude.{◌≡◌};
-ghost use Rattle.ftp_dialogue.specs.Dropping.{DropsCall, abort_unanswered, aborted_by, awaits_abort, is_unanswered, left_by, missed_by, noop_unanswered, owes_last_reply};
+ghost use Rattle.ftp_dialogue.specs.Dropping.{DropsCall, aborted_by, awaits_abort, is_unanswered, left_by, missed_by, owes_last_reply};
 
 use super::Call;
-use super::aborting::is_out;
 use super::machine::Machine;
-use super::stage::{Aborting, Asking, OpeningData, Resyncing, Stage};
+use super::recovering::is_out;
+use super::stage::{AfterClose, Asking, OpeningData, Stage};
 use ftp_calls::exchange::{Turn, aborts, finishes, says_at};
 use ftp_transport::Network;
 
@@ -65,36 +65,12 @@ impl<Tr: Network> Machine<Tr> {
 fn is_unanswered(call: &Call, stage: &Stage) -> bool
     ensures { result ≡ is_unanswered call.now stage.now }
 {
-    if aborts(call) {
-        return abort_unanswered(stage);
-    }
     match stage {
-        Stage::Saying(line, _awaits) => line.is_none(),
+        Stage::Saying(line, _after) => line.is_none(),
+        _ if aborts(call) => is_out(stage),
         Stage::Hearing(awaits) => says_at(call, awaits.turn),
-        Stage::Resyncing(_, resyncing) => noop_unanswered(resyncing),
+        Stage::Seeking(..) => true,
         _ => false,
-    }
-}
-
-/// Whether `NOOP` was begun, and its reply is sought.
-fn noop_unanswered(resyncing: &Resyncing) -> bool
-    ensures { result ≡ noop_unanswered resyncing.now }
-{
-    match resyncing {
-        Resyncing::Wording => false,
-        Resyncing::Sending(line) => line.is_none(),
-        Resyncing::Seeking(_) => true,
-    }
-}
-
-/// Whether `ABOR` was begun.
-fn abort_unanswered(stage: &Stage) -> bool
-    ensures { result ≡ abort_unanswered stage.now }
-{
-    match stage {
-        Stage::Aborting(Aborting::Sending(line)) => line.is_none(),
-        Stage::Aborting(Aborting::ClosingData) => true,
-        _ => is_out(stage),
     }
 }
 
@@ -105,7 +81,7 @@ fn awaits_abort(stage: &Stage) -> bool
     match stage {
         Stage::At(turn) => matches!(turn, Turn::Aborted),
         Stage::Hearing(awaits) => matches!(awaits.turn, Turn::Aborted),
-        Stage::Aborting(aborting) => matches!(aborting, Aborting::ClosingData),
+        Stage::Closing(after) => matches!(after, AfterClose::Aborts),
         _ => false,
     }
 }
@@ -117,6 +93,7 @@ fn owes_last_reply(stage: &Stage) -> bool
 {
     match stage {
         Stage::Transferring(_) => true,
+        Stage::Closing(after) => matches!(after, AfterClose::Fetched(..)),
         Stage::OpeningData(OpeningData::Asking(_, asking)) => {
             matches!(
                 asking,

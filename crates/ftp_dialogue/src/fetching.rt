@@ -6,22 +6,20 @@
 //! transfer counted, as opened and as finished.
 
 ghost use Rattle.std.specs.Prelude.{◌≡◌, ◌⊎◌, is_none, true, false};
-ghost use Rattle.ftp_calls.specs.Exchanges.{negotiates};
 ghost use Rattle.ftp_transport.specs.Told.{EndsAsTold};
 ghost use Rattle.ftp_dialogue.specs.Coding.{Coding, coding_of};
-ghost use Rattle.ftp_calls.specs.declared.exchange.Task.TheVariants as tasks;
-ghost use Rattle.ftp_dialogue.specs.Dialogue.{closed_as, fault_or, fetched, first_fault, too_long, unfetched};
+ghost use Rattle.ftp_calls.specs.declared.call.Call.{Call};
+ghost use Rattle.ftp_dialogue.specs.Dialogue.{fault_or, fetched, first_fault, too_long, unfetched};
 ghost use Rattle.ftp_dialogue.specs.Link.{asking, polling};
-ghost use Rattle.ftp_dialogue.specs.Steps.Moving.{MakesStep, EndsFetch, Follows, Grows};
+ghost use Rattle.ftp_dialogue.specs.Steps.Moving.{EndsFetch, Follows, Grows, MakesStep, StartsTask};
 ghost use Rattle.ftp_dialogue.specs.Steps.Stages.{FetchOf, MayFetch};
 
-use super::asks::Asks;
-use super::carrying::told_of_close;
+use super::Answer;
+use super::data_path::DataPath;
 use super::gathered::{Gathered, More};
 use super::machine::Machine;
 use super::nodes::wants_memory;
-use super::stage::{Stage, Step, Transferring, go_to};
-use super::{Answer, Call};
+use super::stage::{AfterClose, Stage, Step, Transferring, go_to};
 use ftp_base::encoding::Encoding;
 use ftp_base::status::Status;
 use ftp_base::types::{ConnectionError, FtpError};
@@ -41,85 +39,64 @@ const MOST_READS: u64 = 1 << 63;
 
 impl<Tr: Network> Machine<Tr> {
     /// One node of a call that reads or writes a whole data connection.
-    pub(super) fn fetch<W, E: Encoding, A: Asks<Tr, W>>(
+    pub(super) fn transfer<W, E: Encoding, A: DataPath<Tr, W>>(
         &mut self,
-        asker: &A,
+        data_path: &A,
         alloc: Global,
         encoding: &E,
-        call: &Call,
-        fetching: Transferring,
+        transferring: Transferring,
         stage: &mut Stage,
         w: &mut W,
     ) -> Step
     where
         Tr::Conn: PollConn<W>,
         requires going { self.old.channel.failed ≡ false }
-        requires of { FetchOf call.now fetching }
-        requires may { negotiates call.now ≡ true → A.may_ask }
+        requires may { A.may_ask }
         ensures waits { result ≡ Step.Pending → Tr.Conn.may_wait ⊎ A.may_wait }
         ensures end { Tr.Conn.tells → Tr.Conn.may_wait →
             EndsAsTold self.old.channel.ended self.new.channel.ended self.old.channel.told }
-        ensures makes { MakesStep (asking (A.builds asker.now) A.may_wait (polling
-            Tr.Conn.PollConn)) (coding_of E.decoded E.encoded encoding.now) call.now
-            (Stage.Transferring fetching) stage.new self.old self.new result }
+        ensures makes { (call : Call) → FetchOf call transferring →
+            MakesStep (asking (A.builds data_path.now) A.may_wait (polling Tr.Conn.PollConn))
+            (coding_of E.decoded E.encoded encoding.now) call (Stage.Transferring transferring)
+            stage.new self.old self.new result }
     {
-        match fetching {
-            Transferring::Starting(Task::Fetch(form)) => self.start_fetch(
-                asker, alloc, call, form, stage, w,
-            ),
-            Transferring::Starting(Task::Store(bytes)) => self.start_store(
-                asker, call, bytes, stage, w,
-            ),
+        match transferring {
+            Transferring::Starting(task) => self.start(alloc, task, stage),
             Transferring::Gathering(form, left, gathered) => self.gather(
-                asker, alloc, encoding, call, form, left, gathered, stage, w,
+                data_path, alloc, encoding, form, left, gathered, stage, w,
             ),
-            Transferring::Sending(left, total, unsent) => self.send_more(
-                asker, call, left, total, unsent, stage, w,
-            ),
-            Transferring::ClosingData(form, answer) => self.part_fetched(
-                asker, call, form, answer, stage, w,
-            ),
-            Transferring::Ending(form, answer) => self.end_fetched(
-                asker, alloc, call, form, answer, stage, w,
-            ),
+            Transferring::Sending(left, total, unsent) => {
+                self.send_more(data_path, left, total, unsent, stage, w)
+            }
+            Transferring::Ending(form, answer) => {
+                self.end_fetched(data_path, alloc, form, answer, stage, w)
+            }
         }
     }
 
-    /// No byte was read yet.
-    fn start_fetch<W, A: Asks<Tr, W>>(
-        &mut self,
-        _asker: &A,
-        alloc: Global,
-        _call: &Call,
-        form: Fetch,
-        stage: &mut Stage,
-        _w: &mut W,
-    ) -> Step
-    where
-        Tr::Conn: PollConn<W>,
-        requires of { MayFetch _call.now form }
-        ensures moves { result ≡ Step.Pending → ⊥ }
-        ensures end { self.new.channel.ended ≡ self.old.channel.ended }
-        ensures makes { (coding : Coding) → MakesStep (asking (A.builds _asker.now) A.may_wait
-            (polling Tr.Conn.PollConn)) coding _call.now
-            (Stage.Transferring (Transferring.Starting (tasks.Fetch form))) stage.new self.old
-            self.new result }
+    /// No byte was read or written yet.
+    fn start(&mut self, alloc: Global, task: Task, stage: &mut Stage) -> Step
+        ensures { StartsTask task stage.new self.old self.new result }
     {
-        let none = Gathered::new(alloc);
-        go_to(
-            stage,
-            Stage::Transferring(Transferring::Gathering(form, MOST_READS, none)),
-        );
-        Step::Next
+        match task {
+            Task::Fetch(form) => {
+                let none = Gathered::new(alloc);
+                go_to(
+                    stage,
+                    Stage::Transferring(Transferring::Gathering(form, MOST_READS, none)),
+                );
+                Step::Next
+            }
+            Task::Store(bytes) => self.start_store(bytes, stage),
+        }
     }
 
     /// The data connection is read once.
-    fn gather<W, E: Encoding, A: Asks<Tr, W>>(
+    fn gather<W, E: Encoding, A: DataPath<Tr, W>>(
         &mut self,
-        asker: &A,
+        data_path: &A,
         alloc: Global,
         encoding: &E,
-        _call: &Call,
         form: Fetch,
         left: u64,
         mut gathered: Gathered,
@@ -129,29 +106,29 @@ impl<Tr: Network> Machine<Tr> {
     where
         Tr::Conn: PollConn<W>,
         requires going { self.old.channel.failed ≡ false }
-        requires of { MayFetch _call.now form }
         requires may { A.may_ask }
         ensures waits { result ≡ Step.Pending → A.may_wait }
         ensures end { self.new.channel.ended ≡ self.old.channel.ended }
-        ensures makes { MakesStep (asking (A.builds asker.now) A.may_wait (polling
-            Tr.Conn.PollConn)) (coding_of E.decoded E.encoded encoding.now) _call.now
+        ensures makes { (call : Call) → MayFetch call form →
+            MakesStep (asking (A.builds data_path.now) A.may_wait (polling Tr.Conn.PollConn))
+            (coding_of E.decoded E.encoded encoding.now) call
             (Stage.Transferring (Transferring.Gathering form left gathered)) stage.new self.old
             self.new result }
     {
         if left == 0 {
             go_to(
                 stage,
-                Stage::Transferring(Transferring::ClosingData(form, too_long(form))),
+                Stage::Closing(AfterClose::Fetched(form, too_long(form))),
             );
             return Step::Next;
         }
         if self.is_unheld() {
             return self.lack_memory();
         }
-        match self.read_more(asker, &mut gathered, w) {
+        match self.read_more(data_path, &mut gathered, w) {
             Poll::Ready(more) => {
                 let next = follow(alloc, encoding, form, left - 1, gathered, more);
-                go_to(stage, Stage::Transferring(next));
+                go_to(stage, next);
                 Step::Next
             }
             Poll::Pending => {
@@ -172,9 +149,9 @@ impl<Tr: Network> Machine<Tr> {
     }
 
     /// Reads more bytes after those that were read, and makes room for them first.
-    fn read_more<W, A: Asks<Tr, W>>(
+    fn read_more<W, A: DataPath<Tr, W>>(
         &mut self,
-        asker: &A,
+        data_path: &A,
         gathered: &mut Gathered,
         w: &mut W,
     ) -> Poll<More>
@@ -183,53 +160,22 @@ impl<Tr: Network> Machine<Tr> {
         requires held { is_none self.old.net.data_conn ≡ false }
         requires may { A.may_ask }
         ensures end { self.new.channel.ended ≡ self.old.channel.ended }
-        ensures grows { Grows (asking (A.builds asker.now) A.may_wait (polling Tr.Conn.PollConn))
+        ensures grows { Grows (asking (A.builds data_path.now) A.may_wait (polling Tr.Conn.PollConn))
             gathered.old gathered.new self.old self.new result }
     {
         let Some(conn) = &mut self.data_conn else {
             unreachable!();
         };
-        let more = gathered.read_more(asker, conn, w);
+        let more = gathered.read_more(data_path, conn, w);
         self.failures.note_data(has_failed(&more));
         more
     }
 
-    /// The data connection is closed, and the transfer's last reply is due. The error of an upload's close is returned.
-    fn part_fetched<W, A: Asks<Tr, W>>(
-        &mut self,
-        _asker: &A,
-        _call: &Call,
-        form: Fetch,
-        answer: Answer,
-        stage: &mut Stage,
-        _w: &mut W,
-    ) -> Step
-    where
-        Tr::Conn: PollConn<W>,
-        requires of { FetchOf _call.now (Transferring.ClosingData form answer) }
-        ensures moves { result ≡ Step.Pending → ⊥ }
-        ensures end { self.new.channel.ended ≡ self.old.channel.ended }
-        ensures makes { (coding : Coding) → MakesStep (asking (A.builds _asker.now) A.may_wait
-            (polling Tr.Conn.PollConn)) coding _call.now
-            (Stage.Transferring (Transferring.ClosingData form answer)) stage.new self.old self.new
-            result }
-    {
-        let outcome = self.close_data();
-        let told = told_of_close(self.state.uploads, &outcome);
-        drop(outcome);
-        go_to(
-            stage,
-            Stage::Transferring(Transferring::Ending(form, closed_as(told, answer))),
-        );
-        Step::Next
-    }
-
     /// The transfer's last reply is read: the transfer was opened and has come to its end.
-    fn end_fetched<W, A: Asks<Tr, W>>(
+    fn end_fetched<W, A: DataPath<Tr, W>>(
         &mut self,
-        asker: &A,
+        data_path: &A,
         alloc: Global,
-        _call: &Call,
         form: Fetch,
         answer: Answer,
         stage: &mut Stage,
@@ -238,17 +184,17 @@ impl<Tr: Network> Machine<Tr> {
     where
         Tr::Conn: PollConn<W>,
         requires going { self.old.channel.failed ≡ false }
-        requires of { FetchOf _call.now (Transferring.Ending form answer) }
         ensures waits { result ≡ Step.Pending → Tr.Conn.may_wait }
         ensures end { Tr.Conn.tells → Tr.Conn.may_wait →
             EndsAsTold self.old.channel.ended self.new.channel.ended self.old.channel.told }
-        ensures makes { (coding : Coding) → MakesStep (asking (A.builds asker.now) A.may_wait
-            (polling Tr.Conn.PollConn)) coding _call.now
-            (Stage.Transferring (Transferring.Ending form answer)) stage.new self.old self.new
+        ensures makes { (coding : Coding) (call : Call) →
+            FetchOf call (Transferring.Ending form answer) →
+            MakesStep (asking (A.builds data_path.now) A.may_wait (polling Tr.Conn.PollConn)) coding
+            call (Stage.Transferring (Transferring.Ending form answer)) stage.new self.old self.new
             result }
     {
         let codes = [Status::ClosingDataConnection, Status::RequestedFileActionOk];
-        match self.hear(asker, alloc, &codes, w) {
+        match self.hear(data_path, alloc, &codes, w) {
             Poll::Ready(Ok(_reply)) => {
                 self.state.counts.open();
                 self.state.counts.finish();
@@ -294,21 +240,21 @@ fn follow<E: Encoding>(
     left: u64,
     gathered: Gathered,
     more: More,
-) -> Transferring
+) -> Stage
     ensures { Follows (coding_of E.decoded E.encoded encoding.now) form left gathered more result }
 {
-    match more {
+    let answer = match more {
         More::Grew => {
             if gathered.len() <= MOST_BYTES {
-                Transferring::Gathering(form, left, gathered)
-            } else {
-                Transferring::ClosingData(form, too_long(form))
+                return Stage::Transferring(Transferring::Gathering(form, left, gathered));
             }
+            too_long(form)
         }
-        More::Ended => Transferring::ClosingData(form, answer_of(alloc, encoding, form, gathered)),
-        More::Failed(kind) => Transferring::ClosingData(form, unfetched(form, kind)),
-        More::NoMemory => Transferring::ClosingData(form, Answer::Fault(FtpError::OutOfMemory)),
-    }
+        More::Ended => answer_of(alloc, encoding, form, gathered),
+        More::Failed(kind) => unfetched(form, kind),
+        More::NoMemory => Answer::Fault(FtpError::OutOfMemory),
+    };
+    Stage::Closing(AfterClose::Fetched(form, answer))
 }
 
 /// The answer for all that came; `OutOfMemory` where there is no memory for its lines.
@@ -355,19 +301,6 @@ fn first_fault(form: Fetch, answer: Answer, fault: FtpError) -> FtpError
         Fetch::Listed => {
             drop(answer);
             fault
-        }
-    }
-}
-
-/// The answer after a close: its error, where that is returned.
-fn closed_as(told: Option<ErrorKind>, answer: Answer) -> Answer
-    ensures { result ≡ closed_as told answer }
-{
-    match told {
-        None => answer,
-        Some(kind) => {
-            drop(answer);
-            Answer::Fault(FtpError::ConnectionError(ConnectionError::Io(kind)))
         }
     }
 }

@@ -5,7 +5,7 @@ ghost use Rattle.futures.specs.declared.task.Poll.TheVariants as poll;
 ghost use Rattle.ftp_transport.specs.Told.{ReadTells, ReadsAtMost};
 ghost use Rattle.ftp_dialogue.specs.Dialogue.{chunk};
 
-use super::asks::Asks;
+use super::data_path::DataPath;
 use ftp_base::types::Bytes;
 use ftp_transport::{Network, Tells};
 use futures::task::Poll;
@@ -75,9 +75,9 @@ impl Gathered {
     }
 
     /// More bytes are read, after those that were.
-    pub(super) fn read_more<W, Tr: Network, A: Asks<Tr, W>>(
+    pub(super) fn read_more<W, Tr: Network, A: DataPath<Tr, W>>(
         &mut self,
-        asker: &A,
+        data_path: &A,
         conn: &mut Tr::Conn,
         w: &mut W,
     ) -> Poll<More>
@@ -86,7 +86,7 @@ impl Gathered {
         ensures grows { GrowsBy Tr.Conn.tells self.old self.new (Tr.Conn.told conn.old)
             (Tr.Conn.told conn.new) result }
     {
-        match read_after(asker, conn, w, &mut self.buffer, self.filled) {
+        match read_after(data_path, conn, w, &mut self.buffer, self.filled) {
             Err(AllocError) => Poll::Ready(More::NoMemory),
             Ok(Err(kind)) => Poll::Ready(More::Failed(kind)),
             Ok(Ok(Poll::Pending)) => Poll::Pending,
@@ -131,8 +131,8 @@ pub(super) fn fitted(mut buffer: Vec<u8>) -> Bytes
 ///
 /// # Errors
 /// There is no memory to grow, and nothing is read.
-fn read_after<W, Tr: Network, A: Asks<Tr, W>>(
-    asker: &A,
+fn read_after<W, Tr: Network, A: DataPath<Tr, W>>(
+    data_path: &A,
     conn: &mut Tr::Conn,
     w: &mut W,
     buffer: &mut Vec<u8>,
@@ -163,5 +163,5 @@ fn read_after<W, Tr: Network, A: Asks<Tr, W>>(
         };
         buffer.resize(end, 0)?;
     }
-    Ok(asker.read(conn, w, &mut buffer[filled..]))
+    Ok(data_path.read(conn, w, &mut buffer[filled..]))
 }

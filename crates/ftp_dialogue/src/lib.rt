@@ -9,26 +9,26 @@
 //! too. `laws` has what holds of every call that opens a data connection.
 #![tactic(auto)]
 
-mod aborting;
 mod admitting;
 pub mod answers;
-pub mod asks;
-mod carrying;
 mod catching_up;
+mod closing;
+pub mod data_path;
 mod draining;
 mod dropping;
 mod failures;
 mod fetching;
 pub mod gathered;
 pub mod laws;
+mod local_calls;
 pub mod machine;
 pub mod model;
 mod negotiation;
 mod nodes;
 mod questions;
 mod readiness;
+mod recovering;
 mod requests;
-mod resyncing;
 mod sending;
 pub mod stage;
 mod starting;

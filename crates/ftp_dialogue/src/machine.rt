@@ -3,7 +3,7 @@
 //! It is a session without its encoding, since what a contract sees of a machine is plain data, and an encoding is two
 //! functions. `transitions` plays dialogues on it; the session's `run` and `run_polled` play lists of them.
 
-use super::carrying::pass_over;
+use super::closing::pass_over;
 use super::failures::{Failure, Failures};
 use super::state::{Owed, State};
 use ftp_control::control::{ControlChannel, ReplyRule};

@@ -15,7 +15,7 @@ ghost use Rattle.ftp_dialogue.specs.Steps.Questions.{Arrives, Continues, Fits, b
 ghost use Rattle.ftp_dialogue.specs.Steps.Stages.{AskingOf, WayOf, first_by, has_asked};
 
 use super::admitting::{STRANGERS, met, shaken};
-use super::asks::Asks;
+use super::data_path::DataPath;
 use super::machine::Machine;
 use super::questions::{Asked, Found, question_of};
 use super::stage::{Asking, OpeningData, Stage, Step, go_to};
@@ -41,9 +41,9 @@ pub enum Reached {
 
 impl<Tr: Network> Machine<Tr> {
     /// One node on the way to a data connection.
-    pub(super) fn open_data<W, A: Asks<Tr, W>>(
+    pub(super) fn open_data<W, A: DataPath<Tr, W>>(
         &mut self,
-        asker: &A,
+        data_path: &A,
         call: &Call,
         opening_data: OpeningData,
         stage: &mut Stage,
@@ -58,12 +58,12 @@ impl<Tr: Network> Machine<Tr> {
         ensures waits { result ≡ Step.Pending → A.may_wait }
         ensures end { self.new.channel.ended ≡ self.old.channel.ended }
         ensures makes { (coding : Coding) →
-            MakesStep (asking (A.builds asker.now) A.may_wait (polling Tr.Conn.PollConn)) coding
+            MakesStep (asking (A.builds data_path.now) A.may_wait (polling Tr.Conn.PollConn)) coding
             call.now
             (Stage.OpeningData opening_data) stage.new self.old self.new result }
     {
         let question = question_of(&opening_data, self.state.settings.stream_builder);
-        match self.ask(asker, question, w) {
+        match self.ask(data_path, question, w) {
             Asked::Found(found) => {
                 let reached = after(call, opening_data, found, &self.state);
                 self.arrive(reached, stage)

@@ -1,4 +1,4 @@
-//! The nodes of a dialogue: a line is sent, a reply is read, a reply is accepted.
+//! A reply is read, and accepted.
 //!
 //! Each is one step on the channel or on the session's state, with a contract that says what the dialogue's tree says
 //! of it, for whatever comes after it (`(next : ..) → ..`).
@@ -13,61 +13,34 @@ ghost use Rattle.ftp_dialogue.specs.Dialogue.{Tree, after_fault_of, drain_answer
 ghost use Rattle.ftp_dialogue.specs.declared.state.State.{State as States};
 ghost use Rattle.ftp_dialogue.specs.Link.{asking, polling};
 ghost use Rattle.ftp_dialogue.specs.Reading.{LeavesReply};
-ghost use Rattle.ftp_dialogue.specs.Steps.Moving.{Accepts, AnswersAs, FaultLeaves, Hears, SaysNode, TakesLine, done_as, step_of};
+ghost use Rattle.ftp_dialogue.specs.Steps.Moving.{Accepts, AnswersAs, FaultLeaves, Hears, done_as};
 
 use super::answers::{features_answer, line_answer, path_answer, size_answer, time_answer};
-use super::asks::Asks;
+use super::data_path::DataPath;
 use super::machine::Machine;
-use super::stage::{Asking, Opened, Step};
+use super::stage::{Asking, Opened};
 use super::{Answer, State};
 use ftp_base::encoding::{Encoding, WelcomeMessage};
 use ftp_base::status::Status;
 use ftp_base::types::{ConnectionError, FtpError, FtpResult, Mode, Response};
 use ftp_calls::answers::{NoAddress, read_extended_port, read_passive_address};
 use ftp_calls::exchange::{Codes, Ending, Task};
-use ftp_control::control::{ReplyForm, WireLine, form_of};
+use ftp_control::control::{ReplyForm, form_of};
 use ftp_transport::{Network, PollConn};
 use futures::task::Poll;
 use std::alloc::{AllocError, Global};
 use std::io::ErrorKind;
 
 impl<Tr: Network> Machine<Tr> {
-    /// Sends a line, after the unsent tail of the one before.
-    pub(super) fn say<W, A: Asks<Tr, W>>(
-        &mut self,
-        _asker: &A,
-        line: &mut Option<WireLine>,
-        w: &mut W,
-    ) -> Step
-    where
-        Tr::Conn: PollConn<W>,
-        requires { self.old.channel.failed ≡ false }
-        ensures waits { result ≡ Step.Pending → Tr.Conn.may_wait }
-        ensures net { self.new.net ≡ self.old.net }
-        ensures answer { (answer : Answer) → result ≡ Step.Done answer →
-            (fault : Faults) × (answer ≡ Answer.Fault fault) }
-        ensures end { Tr.Conn.tells → Tr.Conn.may_wait →
-            EndsAsTold self.old.channel.ended self.new.channel.ended self.old.channel.told }
-        ensures takes { TakesLine (asking (A.builds _asker.now) A.may_wait (polling
-            Tr.Conn.PollConn)) line.old line.new self.old
-            self.new result }
-        ensures says { SaysNode (asking (A.builds _asker.now) A.may_wait (polling Tr.Conn.PollConn))
-            line.old line.new self.old self.new result }
-    {
-        let performed = self.channel.poll_perform(line, w);
-        self.failures.note_control(self.channel.failed());
-        step_of(performed)
-    }
-
     /// Reads a reply of one of these statuses. A read that waits may be dropped and made again.
     ///
     /// # Errors
     /// `UnexpectedResponse` where its status is another, `BadResponse` where its first line opens no reply; the error
     /// of the connection, the end of its input, or a reply that is too large, each of which fails the session;
     /// `OutOfMemory`.
-    pub fn hear<W, A: Asks<Tr, W>>(
+    pub fn hear<W, A: DataPath<Tr, W>>(
         &mut self,
-        asker: &A,
+        data_path: &A,
         alloc: Global,
         expected: &[Status],
         w: &mut W,
@@ -80,18 +53,18 @@ impl<Tr: Network> Machine<Tr> {
         ensures end { Tr.Conn.tells → Tr.Conn.may_wait →
             EndsAsTold self.old.channel.ended self.new.channel.ended self.old.channel.told }
         ensures hears { (next : Result Heard Faults → Tree) →
-            Hears (asking (A.builds asker.now) A.may_wait (polling Tr.Conn.PollConn)) (expecting
+            Hears (asking (A.builds data_path.now) A.may_wait (polling Tr.Conn.PollConn)) (expecting
             expected.now) next self.old self.new result }
         ensures leaves { LeavesReply self.old self.new result }
     {
-        self.hear_reply_of(asker, alloc, form_of(expected), expected, w)
+        self.hear_reply_of(data_path, alloc, form_of(expected), expected, w)
     }
 
     /// Reads a reply of this form and one of these statuses, by the rule by which it began, or by the setting where it
     /// begins.
-    fn hear_reply_of<W, A: Asks<Tr, W>>(
+    fn hear_reply_of<W, A: DataPath<Tr, W>>(
         &mut self,
-        _asker: &A,
+        _data_path: &A,
         alloc: Global,
         form: ReplyForm,
         expected: &[Status],
@@ -105,7 +78,7 @@ impl<Tr: Network> Machine<Tr> {
         ensures end { Tr.Conn.tells → Tr.Conn.may_wait →
             EndsAsTold self.old.channel.ended self.new.channel.ended self.old.channel.told }
         ensures hears { (next : Result Heard Faults → Tree) →
-            Hears (asking (A.builds _asker.now) A.may_wait (polling Tr.Conn.PollConn)) (record {
+            Hears (asking (A.builds _data_path.now) A.may_wait (polling Tr.Conn.PollConn)) (record {
               form = form;
               statuses = expected.now;
             })
@@ -119,9 +92,9 @@ impl<Tr: Network> Machine<Tr> {
     }
 
     /// Reads the reply that an exchange awaits.
-    pub(super) fn hear_codes<W, A: Asks<Tr, W>>(
+    pub(super) fn hear_codes<W, A: DataPath<Tr, W>>(
         &mut self,
-        asker: &A,
+        data_path: &A,
         alloc: Global,
         codes: &Codes,
         w: &mut W,
@@ -134,15 +107,15 @@ impl<Tr: Network> Machine<Tr> {
         ensures end { Tr.Conn.tells → Tr.Conn.may_wait →
             EndsAsTold self.old.channel.ended self.new.channel.ended self.old.channel.told }
         ensures hears { (next : Result Heard Faults → Tree) →
-            Hears (asking (A.builds asker.now) A.may_wait (polling Tr.Conn.PollConn)) (expected_of
+            Hears (asking (A.builds data_path.now) A.may_wait (polling Tr.Conn.PollConn)) (expected_of
             codes.now) next self.old self.new result }
     {
         match codes {
-            Codes::One(status) => self.hear(asker, alloc, &[*status], w),
-            Codes::Either(one, other) => self.hear(asker, alloc, &[*one, *other], w),
-            Codes::Given(statuses) => self.hear(asker, alloc, statuses.as_slice(), w),
+            Codes::One(status) => self.hear(data_path, alloc, &[*status], w),
+            Codes::Either(one, other) => self.hear(data_path, alloc, &[*one, *other], w),
+            Codes::Given(statuses) => self.hear(data_path, alloc, statuses.as_slice(), w),
             Codes::Features => self.hear_reply_of(
-                asker,
+                data_path,
                 alloc,
                 ReplyForm::Features,
                 &[Status::System],
@@ -442,16 +415,5 @@ fn performs(task: Task, state: &State) -> Accepted
             }
             Accepted::Performs(task)
         }
-    }
-}
-
-/// The result of sending a line.
-fn step_of(performed: Poll<FtpResult<()>>) -> Step
-    ensures { result ≡ step_of performed }
-{
-    match performed {
-        Poll::Ready(Ok(())) => Step::Next,
-        Poll::Ready(Err(fault)) => Step::Done(Answer::Fault(fault)),
-        Poll::Pending => Step::Pending,
     }
 }

@@ -7,7 +7,7 @@ ghost use Rattle.std.specs.Prelude.{◌≡◌, false};
 ghost use Rattle.ftp_dialogue.specs.Link.{asking, polling};
 ghost use Rattle.ftp_dialogue.specs.Steps.Questions.{AsksNode, question_of};
 
-use super::asks::Asks;
+use super::data_path::DataPath;
 use super::machine::Machine;
 use super::negotiation::at_port;
 use super::stage::{Asking, OpeningData};
@@ -65,9 +65,9 @@ pub enum Asked {
 
 impl<Tr: Network> Machine<Tr> {
     /// Asks.
-    pub(super) fn ask<W, A: Asks<Tr, W>>(
+    pub(super) fn ask<W, A: DataPath<Tr, W>>(
         &mut self,
-        asker: &A,
+        data_path: &A,
         question: Question,
         w: &mut W,
     ) -> Asked
@@ -76,28 +76,28 @@ impl<Tr: Network> Machine<Tr> {
         requires going { self.old.channel.failed ≡ false }
         requires may { A.may_ask }
         ensures end { self.new.channel.ended ≡ self.old.channel.ended }
-        ensures asks { AsksNode (asking (A.builds asker.now) A.may_wait (polling Tr.Conn.PollConn))
+        ensures asks { AsksNode (asking (A.builds data_path.now) A.may_wait (polling Tr.Conn.PollConn))
             question self.old self.new result }
     {
         match question {
-            Question::Room => self.ask_for_room(asker, w),
-            Question::OwnAddress => self.local_addr(asker, w),
-            Question::PeerAddress => self.peer_addr(asker, w),
-            Question::Connection(address) => self.ask_to_connect(asker, address, w),
-            Question::Building(address) => self.ask_to_build(asker, address, w),
-            Question::Listener(address) => self.ask_to_listen(asker, address, w),
-            Question::Peer => self.ask_to_accept(asker, w),
-            Question::Handshake => self.ask_to_secure(asker, w),
+            Question::Room => self.ask_for_room(data_path, w),
+            Question::OwnAddress => self.local_addr(data_path, w),
+            Question::PeerAddress => self.peer_addr(data_path, w),
+            Question::Connection(address) => self.ask_to_connect(data_path, address, w),
+            Question::Building(address) => self.ask_to_build(data_path, address, w),
+            Question::Listener(address) => self.ask_to_listen(data_path, address, w),
+            Question::Peer => self.ask_to_accept(data_path, w),
+            Question::Handshake => self.ask_to_secure(data_path, w),
         }
     }
 
     /// Makes room for the record of a data connection, where a transfer can be opened.
-    fn ask_for_room<W, A: Asks<Tr, W>>(&mut self, _asker: &A, _w: &mut W) -> Asked
+    fn ask_for_room<W, A: DataPath<Tr, W>>(&mut self, _data_path: &A, _w: &mut W) -> Asked
     where
         Tr::Conn: PollConn<W>,
         requires going { self.old.channel.failed ≡ false }
         ensures end { self.new.channel.ended ≡ self.old.channel.ended }
-        ensures asks { AsksNode (asking (A.builds _asker.now) A.may_wait (polling
+        ensures asks { AsksNode (asking (A.builds _data_path.now) A.may_wait (polling
             Tr.Conn.PollConn)) Question.Room self.old self.new result }
     {
         match self.state.counts.cannot_open() {

@@ -7,7 +7,7 @@ ghost use Rattle.std.specs.Prelude.{◌≡◌, false};
 ghost use Rattle.ftp_dialogue.specs.Link.{asking, polling};
 ghost use Rattle.ftp_dialogue.specs.Steps.Questions.{AsksNode, looked_as};
 
-use super::asks::Asks;
+use super::data_path::DataPath;
 use super::failures::Failure;
 use super::machine::Machine;
 use super::questions::{Asked, Found, Question};
@@ -21,9 +21,9 @@ use std::net::SocketAddr;
 impl<Tr: Network> Machine<Tr> {
     /// Asks the transport for a connection, and keeps it. The room for its record was made when the call began, so that
     /// nothing is allocated here.
-    pub(super) fn ask_to_connect<W, A: Asks<Tr, W>>(
+    pub(super) fn ask_to_connect<W, A: DataPath<Tr, W>>(
         &mut self,
-        asker: &A,
+        data_path: &A,
         address: SocketAddr,
         w: &mut W,
     ) -> Asked
@@ -31,14 +31,14 @@ impl<Tr: Network> Machine<Tr> {
         Tr::Conn: PollConn<W>,
         requires may { A.may_ask }
         ensures end { self.new.channel.ended ≡ self.old.channel.ended }
-        ensures asks { AsksNode (asking (A.builds asker.now) A.may_wait (polling Tr.Conn.PollConn))
+        ensures asks { AsksNode (asking (A.builds data_path.now) A.may_wait (polling Tr.Conn.PollConn))
             (Question.Connection address) self.old self.new result }
     {
         if self.transport.make_room().is_err() {
             return Asked::NoMemory;
         }
         self.failures.at(address);
-        match asker.connect(&mut self.transport, w, address) {
+        match data_path.connect(&mut self.transport, w, address) {
             Poll::Ready(Ok(Ok(mut conn))) => {
                 conn.begin();
                 self.data_conn = Some(conn);
@@ -55,9 +55,9 @@ impl<Tr: Network> Machine<Tr> {
 
     /// Asks the caller's builder for a connection, and keeps it; or returns its error. What it is asked is put on the
     /// transport's record first.
-    pub(super) fn ask_to_build<W, A: Asks<Tr, W>>(
+    pub(super) fn ask_to_build<W, A: DataPath<Tr, W>>(
         &mut self,
-        asker: &A,
+        data_path: &A,
         address: SocketAddr,
         _w: &mut W,
     ) -> Asked
@@ -65,7 +65,7 @@ impl<Tr: Network> Machine<Tr> {
         Tr::Conn: PollConn<W>,
         requires may { A.may_ask }
         ensures end { self.new.channel.ended ≡ self.old.channel.ended }
-        ensures asks { AsksNode (asking (A.builds asker.now) A.may_wait (polling Tr.Conn.PollConn))
+        ensures asks { AsksNode (asking (A.builds data_path.now) A.may_wait (polling Tr.Conn.PollConn))
             (Question.Building address) self.old self.new result }
     {
         if self.transport.make_room().is_err() {
@@ -75,7 +75,7 @@ impl<Tr: Network> Machine<Tr> {
             return Asked::NoMemory;
         };
         self.failures.at(address);
-        match asker.build(address) {
+        match data_path.build(address) {
             Ok(mut conn) => {
                 conn.begin();
                 self.data_conn = Some(conn);
@@ -89,9 +89,9 @@ impl<Tr: Network> Machine<Tr> {
     }
 
     /// Asks the transport for a listener, and keeps it.
-    pub(super) fn ask_to_listen<W, A: Asks<Tr, W>>(
+    pub(super) fn ask_to_listen<W, A: DataPath<Tr, W>>(
         &mut self,
-        asker: &A,
+        data_path: &A,
         address: SocketAddr,
         w: &mut W,
     ) -> Asked
@@ -99,11 +99,11 @@ impl<Tr: Network> Machine<Tr> {
         Tr::Conn: PollConn<W>,
         requires may { A.may_ask }
         ensures end { self.new.channel.ended ≡ self.old.channel.ended }
-        ensures asks { AsksNode (asking (A.builds asker.now) A.may_wait (polling Tr.Conn.PollConn))
+        ensures asks { AsksNode (asking (A.builds data_path.now) A.may_wait (polling Tr.Conn.PollConn))
             (Question.Listener address) self.old self.new result }
     {
         self.failures.at(address);
-        match asker.listen(&mut self.transport, w, address) {
+        match data_path.listen(&mut self.transport, w, address) {
             Poll::Ready(Ok(Ok((listener, bound)))) => {
                 self.listener = Some(listener);
                 self.failures.at(bound);
@@ -120,12 +120,12 @@ impl<Tr: Network> Machine<Tr> {
 
     /// Asks the transport for a connection on the listener, and keeps it. A listener stands from the moment that the
     /// server was told of it.
-    pub(super) fn ask_to_accept<W, A: Asks<Tr, W>>(&mut self, asker: &A, w: &mut W) -> Asked
+    pub(super) fn ask_to_accept<W, A: DataPath<Tr, W>>(&mut self, data_path: &A, w: &mut W) -> Asked
     where
         Tr::Conn: PollConn<W>,
         requires may { A.may_ask }
         ensures end { self.new.channel.ended ≡ self.old.channel.ended }
-        ensures asks { AsksNode (asking (A.builds asker.now) A.may_wait (polling Tr.Conn.PollConn))
+        ensures asks { AsksNode (asking (A.builds data_path.now) A.may_wait (polling Tr.Conn.PollConn))
             Question.Peer self.old self.new result }
     {
         let Some(listener) = &mut self.listener else {
@@ -135,7 +135,7 @@ impl<Tr: Network> Machine<Tr> {
             return Asked::NoMemory;
         }
         let deadline = self.state.settings.active_deadline;
-        match asker.accept(&mut self.transport, w, listener, deadline) {
+        match data_path.accept(&mut self.transport, w, listener, deadline) {
             Poll::Ready(Ok(Ok((mut conn, from)))) => {
                 conn.begin();
                 self.data_conn = Some(conn);
@@ -154,12 +154,12 @@ impl<Tr: Network> Machine<Tr> {
 
     /// Asks for the data connection to be put under TLS, and keeps what comes of it. While that waits the transport has
     /// the connection.
-    pub(super) fn ask_to_secure<W, A: Asks<Tr, W>>(&mut self, asker: &A, w: &mut W) -> Asked
+    pub(super) fn ask_to_secure<W, A: DataPath<Tr, W>>(&mut self, data_path: &A, w: &mut W) -> Asked
     where
         Tr::Conn: PollConn<W>,
         requires may { A.may_ask }
         ensures end { self.new.channel.ended ≡ self.old.channel.ended }
-        ensures asks { AsksNode (asking (A.builds asker.now) A.may_wait (polling Tr.Conn.PollConn))
+        ensures asks { AsksNode (asking (A.builds data_path.now) A.may_wait (polling Tr.Conn.PollConn))
             Question.Handshake self.old self.new result }
     {
         if self.transport.make_room().is_err() {
@@ -167,7 +167,7 @@ impl<Tr: Network> Machine<Tr> {
         }
         let conn = self.data_conn.take();
         self.data_conn = None;
-        match asker.secure(&mut self.transport, w, conn) {
+        match data_path.secure(&mut self.transport, w, conn) {
             Poll::Ready(Ok(Ok(mut conn))) => {
                 conn.begin();
                 self.data_conn = Some(conn);
@@ -183,12 +183,12 @@ impl<Tr: Network> Machine<Tr> {
     }
 
     /// The address of this end of the control connection.
-    pub(super) fn local_addr<W, A: Asks<Tr, W>>(&mut self, _asker: &A, _w: &mut W) -> Asked
+    pub(super) fn local_addr<W, A: DataPath<Tr, W>>(&mut self, _data_path: &A, _w: &mut W) -> Asked
     where
         Tr::Conn: PollConn<W>,
         requires going { self.old.channel.failed ≡ false }
         ensures end { self.new.channel.ended ≡ self.old.channel.ended }
-        ensures asks { AsksNode (asking (A.builds _asker.now) A.may_wait (polling Tr.Conn.PollConn))
+        ensures asks { AsksNode (asking (A.builds _data_path.now) A.may_wait (polling Tr.Conn.PollConn))
             Question.OwnAddress self.old self.new result }
     {
         let address = self.channel.local_addr();
@@ -197,12 +197,12 @@ impl<Tr: Network> Machine<Tr> {
     }
 
     /// The address of the other end of the control connection.
-    pub(super) fn peer_addr<W, A: Asks<Tr, W>>(&mut self, _asker: &A, _w: &mut W) -> Asked
+    pub(super) fn peer_addr<W, A: DataPath<Tr, W>>(&mut self, _data_path: &A, _w: &mut W) -> Asked
     where
         Tr::Conn: PollConn<W>,
         requires going { self.old.channel.failed ≡ false }
         ensures end { self.new.channel.ended ≡ self.old.channel.ended }
-        ensures asks { AsksNode (asking (A.builds _asker.now) A.may_wait (polling Tr.Conn.PollConn))
+        ensures asks { AsksNode (asking (A.builds _data_path.now) A.may_wait (polling Tr.Conn.PollConn))
             Question.PeerAddress self.old self.new result }
     {
         let address = self.channel.peer_addr();

@@ -3,19 +3,20 @@
 //! Where they can't be, the transfer is left, and what the server replies is read before the next command.
 
 ghost use Rattle.std.specs.Prelude.{◌≡◌, ◌<◌, is_none, false, length};
+ghost use Rattle.ftp_calls.specs.declared.call.Call.{Call};
 ghost use Rattle.ftp_calls.specs.declared.exchange.Fetch.TheVariants.{Whole};
 ghost use Rattle.ftp_calls.specs.declared.exchange.Task.TheVariants.{Store};
 ghost use Rattle.ftp_dialogue.specs.Coding.{Coding};
 ghost use Rattle.ftp_dialogue.specs.Dialogue.{with_abandoned};
 ghost use Rattle.ftp_dialogue.specs.Link.{asking, polling};
-ghost use Rattle.ftp_dialogue.specs.Steps.Moving.{MakesStep, Sends};
+ghost use Rattle.ftp_dialogue.specs.Steps.Moving.{MakesStep, Sends, StartsTask};
 ghost use Rattle.ftp_dialogue.specs.Steps.Stages.{MayFetch};
 
-use super::asks::Asks;
+use super::Answer;
+use super::data_path::DataPath;
 use super::machine::Machine;
-use super::stage::{Stage, Step, Transferring, go_to};
+use super::stage::{AfterClose, Stage, Step, Transferring, go_to};
 use super::unsent::{Unsent, size_to_send};
-use super::{Answer, Call};
 use ftp_base::types::{ConnectionError, FtpError, Items};
 use ftp_calls::exchange::Fetch;
 use ftp_transport::{Network, PollConn};
@@ -24,24 +25,8 @@ use std::io::ErrorKind;
 
 impl<Tr: Network> Machine<Tr> {
     /// No byte was written yet.
-    pub(super) fn start_store<W, A: Asks<Tr, W>>(
-        &mut self,
-        _asker: &A,
-        _call: &Call,
-        bytes: Items<u8>,
-        stage: &mut Stage,
-        _w: &mut W,
-    ) -> Step
-    where
-        Tr::Conn: PollConn<W>,
-        requires going { self.old.channel.failed ≡ false }
-        requires of { MayFetch _call.now Whole }
-        ensures moves { result ≡ Step.Pending → ⊥ }
-        ensures end { self.new.channel.ended ≡ self.old.channel.ended }
-        ensures makes { (coding : Coding) → MakesStep (asking (A.builds _asker.now) A.may_wait
-            (polling Tr.Conn.PollConn)) coding _call.now
-            (Stage.Transferring (Transferring.Starting (Store bytes))) stage.new self.old self.new
-            result }
+    pub(super) fn start_store(&mut self, bytes: Items<u8>, stage: &mut Stage) -> Step
+        ensures { StartsTask (Store bytes) stage.new self.old self.new result }
     {
         let text = self.state.settings.text;
         match size_to_send(text, bytes.as_slice()) {
@@ -58,10 +43,9 @@ impl<Tr: Network> Machine<Tr> {
     }
 
     /// Some bytes are written, where any are left.
-    pub(super) fn send_more<W, A: Asks<Tr, W>>(
+    pub(super) fn send_more<W, A: DataPath<Tr, W>>(
         &mut self,
-        asker: &A,
-        _call: &Call,
+        data_path: &A,
         left: u64,
         total: u64,
         mut unsent: Unsent,
@@ -71,20 +55,19 @@ impl<Tr: Network> Machine<Tr> {
     where
         Tr::Conn: PollConn<W>,
         requires going { self.old.channel.failed ≡ false }
-        requires of { MayFetch _call.now Whole }
         requires may { A.may_ask }
         ensures waits { result ≡ Step.Pending → A.may_wait }
         ensures end { self.new.channel.ended ≡ self.old.channel.ended }
-        ensures makes { (coding : Coding) → MakesStep (asking (A.builds asker.now) A.may_wait
-            (polling Tr.Conn.PollConn)) coding _call.now
-            (Stage.Transferring (Transferring.Sending left total unsent)) stage.new self.old
+        ensures makes { (coding : Coding) (call : Call) → MayFetch call Whole →
+            MakesStep (asking (A.builds data_path.now) A.may_wait (polling Tr.Conn.PollConn)) coding
+            call (Stage.Transferring (Transferring.Sending left total unsent)) stage.new self.old
             self.new result }
     {
         if unsent.is_empty() {
             let answer = Answer::Count(total);
             go_to(
                 stage,
-                Stage::Transferring(Transferring::ClosingData(Fetch::Whole, answer)),
+                Stage::Closing(AfterClose::Fetched(Fetch::Whole, answer)),
             );
             return Step::Next;
         }
@@ -94,7 +77,7 @@ impl<Tr: Network> Machine<Tr> {
         if self.is_unheld() {
             return self.lack_memory();
         }
-        match self.write_some(asker, &mut unsent, w) {
+        match self.write_some(data_path, &mut unsent, w) {
             Ok(Poll::Ready(())) => {
                 go_to(
                     stage,
@@ -114,9 +97,9 @@ impl<Tr: Network> Machine<Tr> {
     }
 
     /// Writes some of the bytes that haven't gone out.
-    fn write_some<W, A: Asks<Tr, W>>(
+    fn write_some<W, A: DataPath<Tr, W>>(
         &mut self,
-        asker: &A,
+        data_path: &A,
         unsent: &mut Unsent,
         w: &mut W,
     ) -> Result<Poll<()>, ErrorKind>
@@ -127,13 +110,13 @@ impl<Tr: Network> Machine<Tr> {
         requires may { A.may_ask }
         ensures end { self.new.channel.ended ≡ self.old.channel.ended }
         ensures state { self.new.state ≡ self.old.state }
-        ensures sends { Sends (asking (A.builds asker.now) A.may_wait (polling Tr.Conn.PollConn))
+        ensures sends { Sends (asking (A.builds data_path.now) A.may_wait (polling Tr.Conn.PollConn))
             unsent.old unsent.new self.old self.new result }
     {
         let Some(conn) = &mut self.data_conn else {
             unreachable!();
         };
-        let written = unsent.write_some(asker, conn, w);
+        let written = unsent.write_some(data_path, conn, w);
         self.failures.note_data(written.is_err());
         written
     }

@@ -28,22 +28,51 @@ use std::net::SocketAddr;
 pub enum Stage {
     /// An exchange begins.
     At(Turn),
-    /// Its line goes out, whole; none once it has begun to.
-    Saying(Option<WireLine>, Awaits),
-    /// Its reply is read.
+    /// A command beside the exchanges is put into a line.
+    Composing(Recovery),
+    /// A line goes out, whole; none once it has begun to.
+    Saying(Option<WireLine>, AfterLine),
+    /// The reply of an exchange is read.
     Hearing(Awaits),
+    /// The reply to `NOOP` is sought; so many others may come before it.
+    Seeking(Turn, u64),
     /// Nothing is sent or received: the next transfer begins at this offset, in bytes.
-    Arming(Turn, u64),
-    /// The reply to `NOOP` is sought among those that come before it.
-    Resyncing(Turn, Resyncing),
+    SettingOffset(Turn, u64),
     /// The way to a data connection, beside the exchanges.
     OpeningData(OpeningData),
-    /// The transfer's data connection is closed.
-    Closing,
-    /// The transfer is aborted.
-    Aborting(Aborting),
     /// A whole file or listing goes over the data connection.
     Transferring(Transferring),
+    /// The data connection is closed.
+    Closing(AfterClose),
+}
+
+/// A command that no row of a call has, by which a session recovers.
+#[derive(Drop)]
+pub enum Recovery {
+    /// `ABOR`, by which a transfer is aborted.
+    Abort,
+    /// `NOOP`, whose reply is sought among those that come before it: the row of this turn.
+    Resync(Turn),
+}
+
+/// What follows once a line has gone out.
+#[derive(Drop)]
+pub enum AfterLine {
+    /// The reply of its exchange is read.
+    Hears(Awaits),
+    /// After `ABOR` the data connection is closed; after `NOOP` its reply is sought.
+    Recovers(Recovery),
+}
+
+/// What follows once the data connection was closed.
+#[derive(Drop)]
+pub enum AfterClose {
+    /// The transfer's last reply is read.
+    Finishes,
+    /// The replies to `ABOR` are read.
+    Aborts,
+    /// The last reply of a whole file or listing is read. This is the answer, by what came of the data.
+    Fetched(Fetch, Answer),
 }
 
 /// How far a whole file or listing has gone over the data connection, and the end of its transfer.
@@ -55,9 +84,7 @@ pub enum Transferring {
     Gathering(Fetch, u64, Gathered),
     /// It is written, by so many writes more at most: the number of all its bytes, and those that haven't gone out.
     Sending(u64, u64, Unsent),
-    /// The data connection is closed. This is the answer, by what came of the data.
-    ClosingData(Fetch, Answer),
-    /// The transfer's last reply is read.
+    /// The transfer's last reply is read. This is the answer, by what came of the data.
     Ending(Fetch, Answer),
 }
 
@@ -68,28 +95,6 @@ pub enum Opened {
     Gives(Answer),
     /// It carries a whole file or listing.
     Performs(Task),
-}
-
-/// How far an abort has come, before its replies are read.
-#[derive(Drop)]
-pub enum Aborting {
-    /// `ABOR` is put into a line.
-    Wording,
-    /// The line goes out, whole; none once it has begun to.
-    Sending(Option<WireLine>),
-    /// The data connection is closed.
-    ClosingData,
-}
-
-/// How far a call has come that reads replies until that to its `NOOP`.
-#[derive(Drop)]
-pub enum Resyncing {
-    /// `NOOP` is put into a line.
-    Wording,
-    /// The line goes out, whole; none once it has begun to.
-    Sending(Option<WireLine>),
-    /// Its reply is read; so many others may come before it.
-    Seeking(u64),
 }
 
 /// How far the way to a data connection was gone.
@@ -191,8 +196,8 @@ pub(super) fn begin<E: Encoding>(
 {
     match row_at(alloc, call, turn)? {
         Row::Exchanges(exchange) => first_node(alloc, encoding, turn, exchange),
-        Row::Arms(offset) => Ok(Stage::Arming(turn, offset)),
-        Row::Resyncs => Ok(Stage::Resyncing(turn, Resyncing::Wording)),
+        Row::Arms(offset) => Ok(Stage::SettingOffset(turn, offset)),
+        Row::Resyncs => Ok(Stage::Composing(Recovery::Resync(turn))),
         Row::Sets(_) | Row::Moves(_) => unreachable!(),
     }
 }
@@ -220,7 +225,7 @@ fn first_node<E: Encoding>(
     match says {
         None => Ok(Stage::Hearing(awaits)),
         Some(command) => match line_of(alloc, encoding, command) {
-            Ok(line) => Ok(Stage::Saying(Some(line), awaits)),
+            Ok(line) => Ok(Stage::Saying(Some(line), AfterLine::Hears(awaits))),
             Err(fault) => {
                 drop(awaits);
                 Err(fault)
@@ -241,7 +246,11 @@ pub(super) fn is_later(turn: Turn) -> bool
 }
 
 /// The line of a command.
-fn line_of<E: Encoding>(alloc: Global, encoding: &E, command: Command) -> FtpResult<WireLine>
+pub(super) fn line_of<E: Encoding>(
+    alloc: Global,
+    encoding: &E,
+    command: Command,
+) -> FtpResult<WireLine>
     ensures line { IfOk result (λ line. wire (E.encoded encoding.now) (text_of command) ≡ Ok line) }
     ensures refused { IfErr result (IsRefusalOf (wire (E.encoded encoding.now) (text_of command))) }
 {

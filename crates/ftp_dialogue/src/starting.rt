@@ -13,9 +13,9 @@ ghost use Rattle.ftp_dialogue.specs.Steps.Polls.{MayPollAt, RefusesFrom, StageIn
 ghost use Rattle.ftp_dialogue.specs.Steps.Moving.{HasBegun, Made, PollsTo, Steps};
 ghost use Rattle.ftp_dialogue.specs.Steps.Stages.{MayAnswer, StageOf, begun_at, remaining};
 
-use super::asks::Asks;
+use super::data_path::DataPath;
 use super::machine::Machine;
-use super::stage::{Aborting, OpeningData, Stage, Transferring, go_to};
+use super::stage::{AfterClose, OpeningData, Recovery, Stage, go_to};
 use super::{Answer, Call, Owed};
 use ftp_base::encoding::Encoding;
 use ftp_base::types::FtpError;
@@ -31,9 +31,9 @@ impl<Tr: Network> Machine<Tr> {
     /// Returns `NoTransfer` where the call is of a transfer and none is held; `SessionFailed` on a session that has
     /// failed; else what the dialogue results in, which is an error where its command has no line, a reply isn't the
     /// one that is expected, a connection fails, or memory runs out.
-    pub fn call_alone<E: Encoding, A: Asks<Tr, NeverWaits>>(
+    pub fn call_alone<E: Encoding, A: DataPath<Tr, NeverWaits>>(
         &mut self,
-        asker: &A,
+        data_path: &A,
         alloc: Global,
         encoding: &E,
         call: &Call,
@@ -44,7 +44,7 @@ impl<Tr: Network> Machine<Tr> {
         requires channel { is_local call.now ≡ false }
         requires blocks { A.may_wait → ⊥ }
         ensures answers { (refusal_of call.now self.old ≡ Lacking → ⊥) → MayAnswer call.now result }
-        ensures made { Made (asking (A.builds asker.now) A.may_wait (blocking Tr.Conn.Conn))
+        ensures made { Made (asking (A.builds data_path.now) A.may_wait (blocking Tr.Conn.Conn))
             (coding_of E.decoded E.encoded encoding.now) call.now
             self.old self.new result }
     {
@@ -52,7 +52,14 @@ impl<Tr: Network> Machine<Tr> {
             return answer;
         }
         let mut stage = self.enter(call);
-        match self.poll_call(asker, alloc, encoding, call, &mut stage, &mut NeverWaits) {
+        match self.poll_call(
+            data_path,
+            alloc,
+            encoding,
+            call,
+            &mut stage,
+            &mut NeverWaits,
+        ) {
             Poll::Ready(answer) => {
                 drop(stage);
                 self.let_go();
@@ -83,9 +90,9 @@ impl<Tr: Network> Machine<Tr> {
         } else if finishes(call) {
             self.state.counts.leave();
             if aborts(call) {
-                Stage::Aborting(Aborting::Wording)
+                Stage::Composing(Recovery::Abort)
             } else {
-                Stage::Closing
+                Stage::Closing(AfterClose::Finishes)
             }
         } else {
             Stage::At(Turn::First)
@@ -114,9 +121,9 @@ impl<Tr: Network> Machine<Tr> {
     /// stage that it has reached.
     ///
     /// Returns what `call_alone` does; where the session has failed since the call began `SessionFailed`.
-    pub fn poll_started<W, E: Encoding, A: Asks<Tr, W>>(
+    pub fn poll_started<W, E: Encoding, A: DataPath<Tr, W>>(
         &mut self,
-        asker: &A,
+        data_path: &A,
         alloc: Global,
         encoding: &E,
         call: &Call,
@@ -129,7 +136,7 @@ impl<Tr: Network> Machine<Tr> {
         requires may { negotiates call.now ≡ true → A.may_ask }
         requires channel { is_local call.now ≡ false }
         ensures stage { result ≡ poll.Pending → StageOf call.now stage.new }
-        ensures starts { StartsTo (asking (A.builds asker.now) A.may_wait (polling
+        ensures starts { StartsTo (asking (A.builds data_path.now) A.may_wait (polling
             Tr.Conn.PollConn)) Tr.Conn.may_wait (coding_of E.decoded E.encoded encoding.now)
             call.now stage.old
             stage.new self.old self.new result }
@@ -137,7 +144,7 @@ impl<Tr: Network> Machine<Tr> {
         if let Some(answer) = self.refuse_at(call, stage) {
             return Poll::Ready(answer);
         }
-        self.poll_taken(asker, alloc, encoding, call, stage, w)
+        self.poll_taken(data_path, alloc, encoding, call, stage, w)
     }
 
     /// The answer of a call that isn't made: that of `refuse` where it begins, later that of `failed_since`.
@@ -168,9 +175,9 @@ impl<Tr: Network> Machine<Tr> {
     }
 
     /// Plays a call that doesn't fail at once.
-    fn poll_taken<W, E: Encoding, A: Asks<Tr, W>>(
+    fn poll_taken<W, E: Encoding, A: DataPath<Tr, W>>(
         &mut self,
-        asker: &A,
+        data_path: &A,
         alloc: Global,
         encoding: &E,
         call: &Call,
@@ -185,17 +192,17 @@ impl<Tr: Network> Machine<Tr> {
         requires going { self.old.channel.failed ≡ false }
         ensures stage { result ≡ poll.Pending → StageOf call.now stage.new }
         ensures polls { let coding = coding_of E.decoded E.encoded encoding.now in
-            PollsTo (asking (A.builds asker.now) A.may_wait (polling Tr.Conn.PollConn)) (begun_at
+            PollsTo (asking (A.builds data_path.now) A.may_wait (polling Tr.Conn.PollConn)) (begun_at
             stage.old)
             (entered_tree coding call.now stage.old self.old.state)
             (remaining coding call.now (entered_state call.now stage.old self.old.state) stage.new)
             (entered_at call.now stage.old self.old) self.new result }
         ensures rests { result ≡ poll.Pending → is_read call.now ≡ true →
-            Rests (asking (A.builds asker.now) A.may_wait (polling Tr.Conn.PollConn)) self.old
+            Rests (asking (A.builds data_path.now) A.may_wait (polling Tr.Conn.PollConn)) self.old
             self.new }
         ensures begun { result ≡ poll.Pending →
             let coding = coding_of E.decoded E.encoded encoding.now in
-            HasBegun (asking (A.builds asker.now) A.may_wait (polling Tr.Conn.PollConn)) (begun_at
+            HasBegun (asking (A.builds data_path.now) A.may_wait (polling Tr.Conn.PollConn)) (begun_at
             stage.old) (begun_at stage.new)
             (entered_tree coding call.now stage.old self.old.state) (entered_at call.now stage.old
             self.old) self.new }
@@ -205,7 +212,7 @@ impl<Tr: Network> Machine<Tr> {
             EndsAsTold self.old.channel.ended self.new.channel.ended self.old.channel.told }
     {
         self.begin_call(call, stage);
-        match self.poll_call(asker, alloc, encoding, call, stage, w) {
+        match self.poll_call(data_path, alloc, encoding, call, stage, w) {
             Poll::Ready(answer) => {
                 self.let_go();
                 Poll::Ready(answer)
@@ -219,15 +226,5 @@ impl<Tr: Network> Machine<Tr> {
 fn is_first(stage: &Stage) -> bool
     ensures { result ≡ is_first stage.now }
 {
-    match stage {
-        Stage::At(turn) => matches!(turn, Turn::First),
-        Stage::Saying(..)
-        | Stage::Hearing(_)
-        | Stage::Arming(..)
-        | Stage::Resyncing(..)
-        | Stage::OpeningData(_)
-        | Stage::Closing
-        | Stage::Aborting(_)
-        | Stage::Transferring(_) => false,
-    }
+    matches!(stage, Stage::At(Turn::First))
 }

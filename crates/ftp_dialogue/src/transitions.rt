@@ -12,14 +12,15 @@ ghost use Rattle.ftp_calls.specs.Exchanges.{finishes, is_read, negotiates};
 ghost use Rattle.ftp_dialogue.specs.Link.{asking, polling};
 ghost use Rattle.ftp_dialogue.specs.Promises.{Rests, failed_from};
 ghost use Rattle.ftp_dialogue.specs.Steps.Moving.{BeginsExchange, Concludes, EndsFaulty, HasBegun, MakesStep, PollSteps, after_fault};
-ghost use Rattle.ftp_dialogue.specs.Steps.Stages.{PollAnswers, StageAfter, StageOf, StepAnswers, begun_at, nodes_left, remaining};
+ghost use Rattle.ftp_dialogue.specs.Steps.Stages.{PollAnswers, StageAfter, StageOf, StepAnswers, begun_at, nodes_left, remaining, stage_said};
 
-use super::asks::Asks;
+use super::data_path::DataPath;
 use super::machine::Machine;
 use super::nodes::{Accepted, accept, conclude_fault, wants_memory};
+use super::recovering::MOST_PASSED_OVER;
 use super::stage::{
-    Aborting, Awaits, OpeningData, Stage, Step, Transferring, begin, falling_back, go_on, go_to,
-    is_later,
+    AfterClose, AfterLine, Awaits, OpeningData, Recovery, Stage, Step, Transferring, begin,
+    falling_back, go_on, go_to, is_later,
 };
 use super::{Answer, Call};
 use ftp_base::encoding::Encoding;
@@ -33,9 +34,9 @@ use std::mem;
 
 impl<Tr: Network> Machine<Tr> {
     /// One node of a call's dialogue. One that waits may be dropped and made again.
-    pub(super) fn step<W, E: Encoding, A: Asks<Tr, W>>(
+    pub(super) fn step<W, E: Encoding, A: DataPath<Tr, W>>(
         &mut self,
-        asker: &A,
+        data_path: &A,
         alloc: Global,
         encoding: &E,
         call: &Call,
@@ -52,36 +53,46 @@ impl<Tr: Network> Machine<Tr> {
             self.old.net }
         ensures end { Tr.Conn.tells → Tr.Conn.may_wait →
             EndsAsTold self.old.channel.ended self.new.channel.ended self.old.channel.told }
-        ensures makes { MakesStep (asking (A.builds asker.now) A.may_wait (polling Tr.Conn.PollConn))
+        ensures makes { MakesStep (asking (A.builds data_path.now) A.may_wait (polling Tr.Conn.PollConn))
             (coding_of E.decoded E.encoded encoding.now) call.now stage.old stage.new self.old
             self.new result }
         ensures rests { result ≡ Step.Pending → is_read call.now ≡ true →
-            Rests (asking (A.builds asker.now) A.may_wait (polling Tr.Conn.PollConn)) self.old
+            Rests (asking (A.builds data_path.now) A.may_wait (polling Tr.Conn.PollConn)) self.old
             self.new }
     {
         match mem::replace(stage, Stage::At(Turn::First)) {
             Stage::At(turn) => self.begin_exchange(alloc, encoding, call, turn, stage),
-            Stage::Saying(line, awaits) => self.say_line(asker, line, awaits, stage, w),
+            Stage::Composing(recovery) => self.compose(alloc, encoding, recovery, stage),
+            Stage::Saying(line, after) => self.say_line(data_path, line, after, stage, w),
             Stage::Hearing(awaits) => self.hear_reply(
-                asker, alloc, encoding, call, awaits, stage, w,
+                data_path, alloc, encoding, call, awaits, stage, w,
             ),
-            Stage::Arming(_turn, offset) => self.arm(offset),
-            Stage::Resyncing(turn, resyncing) => self.resync(
-                asker, alloc, encoding, call, turn, resyncing, stage, w,
+            Stage::Seeking(turn, left) => self.seek(data_path, alloc, turn, left, stage, w),
+            Stage::SettingOffset(_turn, offset) => self.set_offset(offset),
+            Stage::OpeningData(opening_data) => self.open_data(
+                data_path,
+                call,
+                opening_data,
+                stage,
+                w,
             ),
-            Stage::OpeningData(opening_data) => self.open_data(asker, call, opening_data, stage, w),
-            Stage::Closing => self.close(asker, call, stage, w),
-            Stage::Aborting(aborting) => self.abort(
-                asker, alloc, encoding, call, aborting, stage, w,
+            Stage::Transferring(transferring) => self.transfer(
+                data_path,
+                alloc,
+                encoding,
+                transferring,
+                stage,
+                w,
             ),
-            Stage::Transferring(fetching) => self.fetch(
-                asker, alloc, encoding, call, fetching, stage, w,
-            ),
+            Stage::Closing(after) => {
+                self.close(after, stage);
+                Step::Next
+            }
         }
     }
 
     /// The next transfer begins at this offset.
-    pub(super) fn arm(&mut self, offset: u64) -> Step
+    fn set_offset(&mut self, offset: u64) -> Step
         ensures done { result ≡ Step.Done Answer.Unit }
         ensures armed { self.new ≡ record self.old { state = armed offset self.old.state } }
     {
@@ -98,14 +109,8 @@ impl<Tr: Network> Machine<Tr> {
         turn: Turn,
         stage: &mut Stage,
     ) -> Step
-        requires going { self.old.channel.failed ≡ false }
-        requires stage { StageOf call.now (Stage.At turn) }
-        ensures stage { StageAfter call.now stage.new result }
-        ensures net { self.new.net ≡ self.old.net }
-        ensures end { self.new.channel.ended ≡ self.old.channel.ended }
-        ensures answers { StepAnswers call.now result }
-        ensures fewer { result ≡ Step.Next → nodes_left stage.new < nodes_left (Stage.At turn) }
-        ensures begins { BeginsExchange (coding_of E.decoded E.encoded encoding.now) call.now turn
+        requires { StageOf call.now (Stage.At turn) }
+        ensures { BeginsExchange (coding_of E.decoded E.encoded encoding.now) call.now turn
             stage.new self.old self.new result }
     {
         match begin(alloc, encoding, call, turn) {
@@ -120,46 +125,48 @@ impl<Tr: Network> Machine<Tr> {
         }
     }
 
-    /// The line of an exchange goes out.
-    fn say_line<W, A: Asks<Tr, W>>(
+    /// A line goes out, after the unsent tail of the one before.
+    fn say_line<W, A: DataPath<Tr, W>>(
         &mut self,
-        asker: &A,
+        _data_path: &A,
         mut line: Option<WireLine>,
-        awaits: Awaits,
+        after: AfterLine,
         stage: &mut Stage,
         w: &mut W,
     ) -> Step
     where
         Tr::Conn: PollConn<W>,
         requires going { self.old.channel.failed ≡ false }
-        ensures waits { result ≡ Step.Pending → Tr.Conn.may_wait ⊎ A.may_wait }
+        ensures waits { result ≡ Step.Pending → Tr.Conn.may_wait }
         ensures net { self.new.net ≡ self.old.net }
         ensures end { Tr.Conn.tells → Tr.Conn.may_wait →
             EndsAsTold self.old.channel.ended self.new.channel.ended self.old.channel.told }
-        ensures makes { (coding : Coding) (call : Call) → StageOf call (Stage.Saying line awaits) →
-            MakesStep (asking (A.builds asker.now) A.may_wait (polling Tr.Conn.PollConn)) coding
-            call (Stage.Saying line awaits) stage.new self.old self.new result }
+        ensures makes { (coding : Coding) (call : Call) → StageOf call (Stage.Saying line after) →
+            MakesStep (asking (A.builds _data_path.now) A.may_wait (polling Tr.Conn.PollConn)) coding
+            call (Stage.Saying line after) stage.new self.old self.new result }
     {
-        match self.say(asker, &mut line, w) {
-            Step::Next => {
-                go_to(stage, Stage::Hearing(begun(awaits)));
+        let performed = self.channel.poll_perform(&mut line, w);
+        self.failures.note_control(self.channel.failed());
+        match performed {
+            Poll::Ready(Ok(())) => {
+                go_to(stage, stage_said(after));
                 Step::Next
             }
-            Step::Pending => {
-                go_to(stage, Stage::Saying(line, awaits));
-                Step::Pending
+            Poll::Ready(Err(fault)) => {
+                drop(after);
+                Step::Done(Answer::Fault(fault))
             }
-            Step::Done(answer) => {
-                drop(awaits);
-                Step::Done(answer)
+            Poll::Pending => {
+                go_to(stage, Stage::Saying(line, after));
+                Step::Pending
             }
         }
     }
 
     /// The reply of an exchange is read and accepted. Out of memory after the dialogue has begun fails the session.
-    fn hear_reply<W, E: Encoding, A: Asks<Tr, W>>(
+    fn hear_reply<W, E: Encoding, A: DataPath<Tr, W>>(
         &mut self,
-        asker: &A,
+        data_path: &A,
         alloc: Global,
         encoding: &E,
         call: &Call,
@@ -175,13 +182,13 @@ impl<Tr: Network> Machine<Tr> {
         ensures net { self.new.net ≡ self.old.net }
         ensures end { Tr.Conn.tells → Tr.Conn.may_wait →
             EndsAsTold self.old.channel.ended self.new.channel.ended self.old.channel.told }
-        ensures makes { MakesStep (asking (A.builds asker.now) A.may_wait (polling Tr.Conn.PollConn))
+        ensures makes { MakesStep (asking (A.builds data_path.now) A.may_wait (polling Tr.Conn.PollConn))
             (coding_of E.decoded E.encoded encoding.now) call.now (Stage.Hearing awaits) stage.new
             self.old self.new result }
-        ensures rests { result ≡ Step.Pending → Rests (asking (A.builds asker.now) A.may_wait
+        ensures rests { result ≡ Step.Pending → Rests (asking (A.builds data_path.now) A.may_wait
             (polling Tr.Conn.PollConn)) self.old self.new }
     {
-        match self.hear_codes(asker, alloc, &awaits.hears, w) {
+        match self.hear_codes(data_path, alloc, &awaits.hears, w) {
             Poll::Ready(Ok(reply)) => self.accept_reply(
                 alloc, encoding, call, awaits, reply, stage,
             ),
@@ -272,9 +279,9 @@ impl<Tr: Network> Machine<Tr> {
     }
 
     /// Plays a call as far as it gets.
-    pub(super) fn poll_call<W, E: Encoding, A: Asks<Tr, W>>(
+    pub(super) fn poll_call<W, E: Encoding, A: DataPath<Tr, W>>(
         &mut self,
-        asker: &A,
+        data_path: &A,
         alloc: Global,
         encoding: &E,
         call: &Call,
@@ -294,21 +301,21 @@ impl<Tr: Network> Machine<Tr> {
             EndsAsTold self.old.channel.ended self.new.channel.ended self.old.channel.told }
         ensures answers { PollAnswers call.now result }
         ensures rests { result ≡ poll.Pending → is_read call.now ≡ true →
-            Rests (asking (A.builds asker.now) A.may_wait (polling Tr.Conn.PollConn)) self.old
+            Rests (asking (A.builds data_path.now) A.may_wait (polling Tr.Conn.PollConn)) self.old
             self.new }
         ensures begun { result ≡ poll.Pending →
             let coding = coding_of E.decoded E.encoded encoding.now in
-            HasBegun (asking (A.builds asker.now) A.may_wait (polling Tr.Conn.PollConn)) (begun_at
+            HasBegun (asking (A.builds data_path.now) A.may_wait (polling Tr.Conn.PollConn)) (begun_at
             stage.old) (begun_at stage.new)
             (remaining coding call.now self.old.state stage.old) self.old self.new }
         ensures polls { let coding = coding_of E.decoded E.encoded encoding.now in
-            PollSteps (asking (A.builds asker.now) A.may_wait (polling Tr.Conn.PollConn)) (begun_at
+            PollSteps (asking (A.builds data_path.now) A.may_wait (polling Tr.Conn.PollConn)) (begun_at
             stage.old)
             (remaining coding call.now self.old.state stage.old)
             (remaining coding call.now self.old.state stage.new) self.old self.new result }
     {
         loop {
-            match self.step(asker, alloc, encoding, call, stage, w) {
+            match self.step(data_path, alloc, encoding, call, stage, w) {
                 Step::Next => {}
                 Step::Pending => return Poll::Pending,
                 Step::Done(answer) => return Poll::Ready(answer),
@@ -317,12 +324,16 @@ impl<Tr: Network> Machine<Tr> {
     }
 }
 
-/// The reply is awaited after a line that went out.
-fn begun(awaits: Awaits) -> Awaits
-    ensures { result ≡ record awaits { begun = true } }
+/// What follows a line that has gone out.
+fn stage_said(after: AfterLine) -> Stage
+    ensures { result ≡ stage_said after }
 {
-    Awaits {
-        begun: true,
-        ..awaits
+    match after {
+        AfterLine::Hears(awaits) => Stage::Hearing(Awaits {
+            begun: true,
+            ..awaits
+        }),
+        AfterLine::Recovers(Recovery::Abort) => Stage::Closing(AfterClose::Aborts),
+        AfterLine::Recovers(Recovery::Resync(turn)) => Stage::Seeking(turn, MOST_PASSED_OVER),
     }
 }

@@ -8,7 +8,7 @@ ghost use Rattle.ftp_base.specs.Ascii.{converted, wire_data};
 ghost use Rattle.ftp_dialogue.specs.Dialogue.{size_to_send};
 ghost use Rattle.ftp_dialogue.specs.Sending.{IsPlain, MayEnd};
 
-use super::asks::Asks;
+use super::data_path::DataPath;
 use ftp_base::types::Items;
 use ftp_transport::{Network, Tells};
 use futures::task::Poll;
@@ -80,9 +80,9 @@ impl Unsent {
     ///
     /// # Errors
     /// What the connection returns; then the same bytes are left.
-    pub(super) fn write_some<W, Tr: Network, A: Asks<Tr, W>>(
+    pub(super) fn write_some<W, Tr: Network, A: DataPath<Tr, W>>(
         &mut self,
-        asker: &A,
+        data_path: &A,
         conn: &mut Tr::Conn,
         w: &mut W,
     ) -> Result<Poll<()>, ErrorKind>
@@ -92,7 +92,7 @@ impl Unsent {
         ensures sends { SendsBy Tr.Conn.tells self.old self.new (Tr.Conn.told conn.old)
             (Tr.Conn.told conn.new) result }
     {
-        match asker.write(conn, w, self.piece())? {
+        match data_path.write(conn, w, self.piece())? {
             Poll::Pending => Ok(Poll::Pending),
             Poll::Ready(count) => {
                 self.advance(count);

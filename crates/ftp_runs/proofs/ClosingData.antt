@@ -157,8 +157,7 @@ module _ (coding : Coding) (room : Room) (u t : PlayState) (due : Wait) (none_as
 
 settled_parted : (o : Owed) (d : NetRecord) → settled o (parted d) ≡ parted d
 settled_parted owed.Nothing d = refl
-settled_parted (owed.Live number) d = refl
-settled_parted (owed.Left number) d = refl
+settled_parted other d = refl
 
 leave_taken : (failed none : Bool) (o : Owed) → refusal Finish failed (lacks Finish none o) ≡ Taken → refusal Leave failed (lacks Leave none o) ≡ Taken
 leave_taken failed true o taken = let clash : Lacking ≡ Taken = taken in cc

@@ -76,8 +76,7 @@ drained_owed o state is = go o is
   where
     go : (o : Owed) → state.counts.owed ≡ o → none_left (with_drained state).counts.owed ≡ true
     go owed.Nothing is = rw is refl
-    go (owed.Live number) is = rw is refl
-    go (owed.Left number) is = rw is refl
+    go other is = rw is refl
 
 -- where the drain is over, it has changed the state so
 abbrev state_in : Played → State

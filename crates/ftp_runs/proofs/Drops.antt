@@ -7,48 +7,9 @@ use Rattle.ftp_runs.specs.Script.{drops_begun, MayCancel}
 
 -- a call that brings a transfer to its end, and aborts none
 pub finish_is : (call : Call) → finishes call ≡ true → aborts call ≡ false → call ≡ Finish
-finish_is Greet ends on = let clash : false ≡ true = ends in cc
-finish_is (Login one two) ends on = let clash : false ≡ true = ends in cc
-finish_is (Cwd one) ends on = let clash : false ≡ true = ends in cc
-finish_is Cdup ends on = let clash : false ≡ true = ends in cc
-finish_is Pwd ends on = let clash : false ≡ true = ends in cc
-finish_is Noop ends on = let clash : false ≡ true = ends in cc
-finish_is Resync ends on = let clash : false ≡ true = ends in cc
-finish_is (Eprt one) ends on = let clash : false ≡ true = ends in cc
-finish_is (Opts one two) ends on = let clash : false ≡ true = ends in cc
-finish_is (Site one) ends on = let clash : false ≡ true = ends in cc
-finish_is (TransferType one) ends on = let clash : false ≡ true = ends in cc
-finish_is (Mkdir one) ends on = let clash : false ≡ true = ends in cc
-finish_is (Rmdir one) ends on = let clash : false ≡ true = ends in cc
-finish_is (Rm one) ends on = let clash : false ≡ true = ends in cc
-finish_is (Rename one two) ends on = let clash : false ≡ true = ends in cc
-finish_is Quit ends on = let clash : false ≡ true = ends in cc
-finish_is (Mlst one) ends on = let clash : false ≡ true = ends in cc
-finish_is (Mdtm one) ends on = let clash : false ≡ true = ends in cc
-finish_is (SetModified one two) ends on = let clash : false ≡ true = ends in cc
-finish_is (Size one) ends on = let clash : false ≡ true = ends in cc
-finish_is Feat ends on = let clash : false ≡ true = ends in cc
-finish_is (CustomCommand one two) ends on = let clash : false ≡ true = ends in cc
-finish_is (ReadResponse one) ends on = let clash : false ≡ true = ends in cc
-finish_is (ReadResponseIn one) ends on = let clash : false ≡ true = ends in cc
-finish_is (ResumeTransfer one) ends on = let clash : false ≡ true = ends in cc
-finish_is (RetrAsStream one) ends on = let clash : false ≡ true = ends in cc
-finish_is (PutWithStream one) ends on = let clash : false ≡ true = ends in cc
-finish_is (AppendWithStream one) ends on = let clash : false ≡ true = ends in cc
-finish_is (CustomDataCommand one two) ends on = let clash : false ≡ true = ends in cc
-finish_is (Retr one) ends on = let clash : false ≡ true = ends in cc
-finish_is (Listing one) ends on = let clash : false ≡ true = ends in cc
-finish_is (Nlst one) ends on = let clash : false ≡ true = ends in cc
-finish_is (Mlsd one) ends on = let clash : false ≡ true = ends in cc
-finish_is (PutFile one two) ends on = let clash : false ≡ true = ends in cc
-finish_is (AppendFile one two) ends on = let clash : false ≡ true = ends in cc
-finish_is (Set one) ends on = let clash : false ≡ true = ends in cc
-finish_is (Read one) ends on = let clash : false ≡ true = ends in cc
-finish_is (Write one) ends on = let clash : false ≡ true = ends in cc
 finish_is Finish ends on = refl
 finish_is Abort ends on = let clash : true ≡ false = on in cc
-finish_is Leave ends on = let clash : false ≡ true = ends in cc
-finish_is Drain ends on = let clash : false ≡ true = ends in cc
+finish_is other ends on = let clash : false ≡ true = ends in cc
 
 -- where no reply of it is due it may be dropped
 pub may_drop : (call : Call) (polled : Bool) → drops_begun (Some call) polled ≡ false → MayCancel (Some call) polled

@@ -36,7 +36,7 @@ use Rattle.ftp_calls.specs.declared.call.Call.TheVariants.{Finish, Leave}
 use Rattle.ftp_calls.specs.declared.exchange.Turn.{Turn}
 use Rattle.ftp_calls.specs.declared.exchange.Turn.TheVariants.{First, Second, Passive, ExtendedPassive, Active, Restart, Closed, Aborted}
 use Rattle.ftp_dialogue.specs.declared.stage.Stage.{Stage}
-use Rattle.ftp_dialogue.specs.declared.stage.Stage.TheVariants.{At, Saying, Hearing, Arming, Resyncing, OpeningData, Closing, Aborting, Transferring}
+use Rattle.ftp_dialogue.specs.declared.stage.Stage.TheVariants.{At}
 use Rattle.ftp_dialogue.specs.declared.model.PlayState.{PlayState}
 use Rattle.ftp_dialogue.specs.declared.model.Wait.{Wait}
 use Rattle.ftp_dialogue.specs.declared.model.Wait.TheVariants as wait
@@ -220,39 +220,11 @@ module _ (builds : Builds) (coding : Coding) (outcomes : List NetOutcome) where
   -- where a poll begins of a call that was polled before
   settled_state : (call : Call) (stage : Stage) (state : State) → StageOf call stage → entered_state call stage state ≡ state
   settled_state call (At First) state plain = plain_entered call state plain.0 plain.2
-  settled_state call (At (Closed close)) state stage_of = refl
-  settled_state call (At Aborted) state stage_of = refl
-  settled_state call Closing state stage_of = refl
-  settled_state call (Aborting abort) state stage_of = refl
-  settled_state call (Transferring fetching) state stage_of = refl
-  settled_state call (At Second) state stage_of = refl
-  settled_state call (At (Passive offset after)) state stage_of = refl
-  settled_state call (At (ExtendedPassive offset tries)) state stage_of = refl
-  settled_state call (At (Active address offset)) state stage_of = refl
-  settled_state call (At (Restart offset)) state stage_of = refl
-  settled_state call (Saying line a) state stage_of = refl
-  settled_state call (Hearing a) state stage_of = refl
-  settled_state call (Arming turn offset) state stage_of = refl
-  settled_state call (Resyncing turn seeks) state stage_of = refl
-  settled_state call (OpeningData way) state stage_of = refl
+  settled_state call other state stage_of = refl
 
   settled_tree : (call : Call) (stage : Stage) (state : State) → StageOf call stage → entered_tree coding call stage state ≡ remaining coding call state stage
   settled_tree call (At First) state plain = plain_dialogue coding call state plain.0 plain.2
-  settled_tree call (At (Closed close)) state stage_of = refl
-  settled_tree call (At Aborted) state stage_of = refl
-  settled_tree call Closing state stage_of = refl
-  settled_tree call (Aborting abort) state stage_of = refl
-  settled_tree call (Transferring fetching) state stage_of = refl
-  settled_tree call (At Second) state stage_of = refl
-  settled_tree call (At (Passive offset after)) state stage_of = refl
-  settled_tree call (At (ExtendedPassive offset tries)) state stage_of = refl
-  settled_tree call (At (Active address offset)) state stage_of = refl
-  settled_tree call (At (Restart offset)) state stage_of = refl
-  settled_tree call (Saying line a) state stage_of = refl
-  settled_tree call (Hearing a) state stage_of = refl
-  settled_tree call (Arming turn offset) state stage_of = refl
-  settled_tree call (Resyncing turn seeks) state stage_of = refl
-  settled_tree call (OpeningData way) state stage_of = refl
+  settled_tree call other state stage_of = refl
 
   -- what was fed, seen from after a poll
   module _ (left : List NetOutcome) (asked : List NetEvent) (old : SessionValue) (s : Script) (v w : SessionValue) (call : Call) (stage : Stage) (answers : List Answer) (f : Follows builds coding outcomes (outcomes_of asked ++ left) old s v (Some call) stage answers) (came : List ℕ) (c : Carried builds v w came asked) where

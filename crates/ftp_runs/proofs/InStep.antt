@@ -19,7 +19,7 @@ use Rattle.ftp_dialogue.specs.Link.{Link, unasked}
 use Rattle.std.specs.Prelude.{◌&&◌, ◌||◌, ◌==◌, Option, Some, None, not}
 use Rattle.futures.specs.declared.task.Poll.TheVariants.{Ready}
 use Rattle.ftp_base.specs.declared.types.fault.FtpError.{FtpError}
-use Rattle.ftp_dialogue.specs.CatchingUp.{CatchesUp, InStepIf, MakesThen, PlaysInStep, is_behind, is_plain_read, opens_beside}
+use Rattle.ftp_dialogue.specs.CatchingUp.{CatchesUp, InStepIf, MakesThen, PlaysInStep, reads_dropped_first, is_plain_read, opens_beside}
 use Rattle.ftp_dialogue.proofs.CatchingUpLemmas.{plays_in_step}
 use Rattle.ftp_session.proofs.Grounds.{up_caught}
 use Rattle.ftp_runs.proofs.Running.{RunsSoFar, before_all-Finished, next_answer, run-nil}
@@ -40,7 +40,7 @@ makes_more due link coding (first ∷ made) call old mid new answers answer so_f
     (so_far.0, so_far.1, so_far.2 ++ answer ∷ [], ap (λ a. a ++ answer ∷ []) so_far.3, so_far.4, makes_more due link coding made call so_far.0 mid new so_far.2 answer so_far.5 plays)
 
 -- a session that has failed reads no replies that are due
-failed_unread : (call : Call) (v : SessionValue) → v.channel.failed ≡ true → is_behind call v ≡ false
+failed_unread : (call : Call) (v : SessionValue) → v.channel.failed ≡ true → reads_dropped_first call v ≡ false
 failed_unread call v failed = ap (λ f. not (f || (v.state.unanswered == 0)) && (drains_first call || drains call) && not (opens_beside call v.state.counts.owed)) failed
 
 -- a call after one that was aborted
@@ -98,7 +98,7 @@ aborted_more link coding calls to_make call old mid new answers answer broke pla
         unread false has_failed by_then = by_then
 
 -- replies that are due are read before a call
-catches_up : (link : Link) (coding : Coding) (calls later : List Call) (call : Call) (old mid new : SessionValue) (answers : List Answer) (answer : Answer) → are_due old ≡ true → RanTo link coding calls (call ∷ later) old mid answers → is_behind call mid ≡ true → PlaysInStep link coding call mid new answer → RunCatchesUp link coding calls later old new (answers ++ answer ∷ [])
+catches_up : (link : Link) (coding : Coding) (calls later : List Call) (call : Call) (old mid new : SessionValue) (answers : List Answer) (answer : Answer) → are_due old ≡ true → RanTo link coding calls (call ∷ later) old mid answers → reads_dropped_first call mid ≡ true → PlaysInStep link coding call mid new answer → RunCatchesUp link coding calls later old new (answers ++ answer ∷ [])
 catches_up link coding calls later call old mid new answers answer due ran behind plays = record {
   due = due;
   first = answers;
@@ -142,7 +142,7 @@ ran_all link coding calls old new answers reached = record {
 
 -- it fails the session only where the call fails
 pub step_fails_with : (link : Link) (coding : Coding) (call : Call) (old new : SessionValue) (answer : Answer) → MadeInStep link coding call old new answer → FailsWith old new (answer ∷ [])
-step_fails_with link coding call old new answer made = go (is_behind call old) made
+step_fails_with link coding call old new answer made = go (reads_dropped_first call old) made
   where
     then : (middle : SessionValue) (fault : Option FtpError) (ends : Bool) → CatchesUp (unasked link) (is_plain_read call) old middle (Ready fault) → MakesThen fault ends (MadeDrained link coding call) middle new answer → FailsWith old new (answer ∷ [])
     then middle (Some fault) ends up stops =
@@ -179,12 +179,12 @@ next_of link coding calls i call old mid new answers answers' answer inside is p
     rest : List Call
     rest = drop (i + 1) calls
 
-    behind_next : (due : Bool) → are_due old ≡ due → (b : Bool) → is_behind call mid ≡ b → RanTo link coding calls (call ∷ rest) old mid answers → PlaysInStep link coding call mid new answer → InStepIf b (unasked link) (is_plain_read call) (drains call) (MadeDrained link coding call) mid new answer → due ≡ true → RunsSoFar link coding calls rest old new (answers ++ answer ∷ [])
+    behind_next : (due : Bool) → are_due old ≡ due → (b : Bool) → reads_dropped_first call mid ≡ b → RanTo link coding calls (call ∷ rest) old mid answers → PlaysInStep link coding call mid new answer → InStepIf b (unasked link) (is_plain_read call) (drains call) (MadeDrained link coding call) mid new answer → due ≡ true → RunsSoFar link coding calls rest old new (answers ++ answer ∷ [])
     behind_next due is_due false none reached plays more late = next_answer link coding calls rest call old mid answers reached new answer more
     behind_next due is_due true behind reached plays first late = inr (inr (catches_up link coding calls rest call old mid new answers answer (is_due ∙ late) reached behind plays))
 
     reached_next : (due : Bool) → are_due old ≡ due → RanTo link coding calls (call ∷ rest) old mid answers → MadeAmong due link coding call mid new answer → RunsSoFar link coding calls rest old new (answers ++ answer ∷ [])
-    reached_next true is_due reached step = behind_next true is_due (is_behind call mid) refl reached (plays_in_step link coding call mid new answer step) step refl
+    reached_next true is_due reached step = behind_next true is_due (reads_dropped_first call mid) refl reached (plays_in_step link coding call mid new answer step) step refl
     reached_next false is_due reached drained = next_answer link coding calls rest call old mid answers reached new answer drained
 
     caught_next : (due : Bool) → are_due old ≡ due → RunCatchesUp link coding calls (call ∷ rest) old mid answers → MadeAmong due link coding call mid new answer → RunsSoFar link coding calls rest old new (answers ++ answer ∷ [])

@@ -122,9 +122,7 @@ module _ (state : State) (even : IsEven state) where
 
   opening_even : (opened : Tree) → StaysEven opened → (m : Mode) → StaysEven (opening m opened state)
   opening_even opened stays mode.Active = λ host. accepting_even (securing opened state) (securing_even opened stays) host strangers
-  opening_even opened stays mode.Passive = securing_even opened stays
-  opening_even opened stays mode.ExtendedPassive = securing_even opened stays
-  opening_even opened stays mode.Automatic = securing_even opened stays
+  opening_even opened stays other = securing_even opened stays
 
   -- bytes on the data connection
   carrying_even : (m : Movement) → StaysEven (carrying m state)
@@ -159,11 +157,7 @@ module _ (state : State) (even : IsEven state) where
       go false = closing_data_even form (too_long form)
   data_even coding form all on stays (came.Failed kind) = closing_data_even form (unfetched form kind)
   data_even coding form all on stays came.NoMemory = closing_data_even form (Fault faults.OutOfMemory)
-  data_even coding form all on stays (came.Answered outcome) = closing_data_even form (too_long form)
-  data_even coding form all on stays (came.Built fault) = closing_data_even form (too_long form)
-  data_even coding form all on stays (came.Secured fault) = closing_data_even form (too_long form)
-  data_even coding form all on stays (came.Wrote count) = closing_data_even form (too_long form)
-  data_even coding form all on stays came.Closed = closing_data_even form (too_long form)
+  data_even coding form all on stays other = closing_data_even form (too_long form)
 
   gathering_even : (coding : Coding) (form : Fetch) (left : ℕ) (all : List ℕ) → StaysEven (gathering coding form left all state)
   unfolding gathering
@@ -172,13 +166,7 @@ module _ (state : State) (even : IsEven state) where
 
   sent_even : (rest : List ℕ) (on : List ℕ → Tree) → ((more : List ℕ) → StaysEven (on more)) → (outcome : NetOutcome) → StaysEven (on_sent rest on state outcome)
   sent_even rest on stays (came.Wrote count) = stays (drop count rest)
-  sent_even rest on stays (came.Failed kind) = even
-  sent_even rest on stays came.NoMemory = even
-  sent_even rest on stays (came.Answered outcome) = even
-  sent_even rest on stays (came.Built fault) = even
-  sent_even rest on stays (came.Secured fault) = even
-  sent_even rest on stays (came.Read bytes) = even
-  sent_even rest on stays came.Closed = even
+  sent_even rest on stays other = even
 
   sending_even : (left total : ℕ) (rest : List ℕ) → StaysEven (sending left total rest state)
   unfolding sending
@@ -214,12 +202,7 @@ module _ (state : State) (even : IsEven state) where
   faulty_even : (fault : FtpError) → IsEven (after_faulty fault state)
   faulty_even (faults.UnexpectedResponse reply) = answered_even reply
   faulty_even faults.BadResponse = bad_even
-  faulty_even (faults.ConnectionError why) = even
-  faulty_even (faults.SecureError text) = even
-  faulty_even faults.InvalidAddress = even
-  faulty_even faults.DataConnectionAlreadyOpen = even
-  faulty_even faults.OutOfMemory = even
-  faulty_even faults.SessionFailed = even
+  faulty_even other = even
 
   memory_even : (fault : FtpError) (other : State) → IsEven other → IsEven (cond (wants_memory fault) state other)
   memory_even fault other stays = elim (wants_memory fault) as (λ b. IsEven (cond b state other)) [
@@ -230,23 +213,8 @@ module _ (state : State) (even : IsEven state) where
   fault_even : (how : Ending) (fault : FtpError) → IsEven (after_fault_of how fault state)
   fault_even (ending.Finishes close) fault = memory_even fault (with_finished state) even
   fault_even ending.Drains fault = memory_even fault (with_drained state) even
-  fault_even ending.Stops fault = even
   fault_even ending.TakesReply fault = faulty_even fault
-  fault_even ending.Done fault = even
-  fault_even ending.GivesReply fault = even
-  fault_even ending.Greets fault = even
-  fault_even ending.GivesPath fault = even
-  fault_even ending.GivesSecondLine fault = even
-  fault_even ending.GivesTime fault = even
-  fault_even ending.GivesSize fault = even
-  fault_even ending.GivesFeatures fault = even
-  fault_even (ending.SetsText text) fault = even
-  fault_even (ending.GoesOn status) fault = even
-  fault_even ending.Continues fault = even
-  fault_even ending.GivesAddress fault = even
-  fault_even (ending.GivesPort tries) fault = even
-  fault_even (ending.Opens replies) fault = even
-  fault_even (ending.Performs task) fault = even
+  fault_even other fault = even
 
   told_even : (reply : Response) (next : Tree) → StaysEven next → (told : Result SocketAddr NoAddress) → StaysEven (to_address state reply next told)
   told_even reply next stays (Err why) = even
@@ -284,25 +252,15 @@ module _ (state : State) (even : IsEven state) where
     port_unless false reply = port_even reply (after state) stays (extended_port_of reply.body)
 
     accepted_even : (how : Ending) (reply : Response) → StaysEven (accepted coding how state reply after)
-    accepted_even ending.Done reply = even
-    accepted_even ending.GivesReply reply = even
     accepted_even ending.TakesReply reply = answered_even reply
-    accepted_even ending.Greets reply = even
-    accepted_even ending.GivesPath reply = even
-    accepted_even ending.GivesSecondLine reply = even
-    accepted_even ending.GivesTime reply = even
-    accepted_even ending.GivesSize reply = even
-    accepted_even ending.GivesFeatures reply = even
-    accepted_even (ending.SetsText text) reply = even
     accepted_even (ending.GoesOn status) reply = next_if (code_of reply.status == code_of status) state even
     accepted_even ending.Continues reply = stays
     accepted_even ending.GivesAddress reply = told_even reply (after state) stays (passive_address_of reply.body)
     accepted_even (ending.GivesPort tries) reply = port_unless (falls_back tries reply) reply
     accepted_even (ending.Opens replies) reply = opening_even (Leaf (opened_answer replies reply) (with_transfer state)) even state.settings.mode
     accepted_even (ending.Performs task) reply = opening_even (performing coding task state) (performing_even coding task) state.settings.mode
-    accepted_even (ending.Finishes close) reply = even
-    accepted_even ending.Drains reply = even
     accepted_even ending.Stops reply = next_if (code_of reply.status == code_of TransferAborted) (with_aborted state) even
+    accepted_even other reply = even
 
     concluded_even : (how : Ending) (heard : Result Response FtpError) → StaysEven (concluded coding how state after heard)
     concluded_even how (Ok reply) = accepted_even how reply
@@ -358,14 +316,12 @@ module _ (state : State) (even : IsEven state) where
         go false = last_even
 
     later_even : (turn : Turn) → StaysEven (later coding call turn state)
-    later_even First = last_even
     later_even Second = even
     later_even (Passive offset after) = restart_even offset
     later_even (ExtendedPassive offset tries) = restart_even offset
     later_even (Active address offset) = restart_even offset
-    later_even (Restart offset) = last_even
     later_even (Closed close) = even
-    later_even Aborted = last_even
+    later_even other = last_even
 
     turn_even : (turn : Turn) → StaysEven (from_turn coding call turn state)
     turn_even turn = row_even coding (row_of call turn) (later coding call turn) (later_even turn)

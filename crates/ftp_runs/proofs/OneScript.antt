@@ -163,13 +163,9 @@ reads_none None polled failed state even = refl
 reads_none (Some call) polled failed state even = ap (λ b. not polled && b) (none_due call failed state even) ∙ and_none (not polled)
 
 event_parts : (one : Event) (s : Script) → IsEven s.state → (one ≡ event.Cancel → MayCancel s.call s.polled) → parts s one ≡ false
-event_parts (event.Feed more) s even may = refl
-event_parts event.End s even may = refl
-event_parts (event.Room more) s even may = refl
-event_parts (event.Start call) s even may = refl
 event_parts event.Poll s even may = reads_none s.call s.polled s.failed s.state even
 event_parts event.Cancel s even may = may_free s.call s.polled (may refl)
-event_parts event.Leave s even may = refl
+event_parts other s even may = refl
 
 pub one_script : (coding : Coding) (start : PlayState) (s : Script) (events : List Event) → IsEven start.state → IsEven s.state → DropsFreely coding start s events → Whole coding start zero s events
 one_script coding start s [] begins even frees = tt

@@ -13,7 +13,7 @@ use Rattle.ftp_calls.specs.declared.call.Event.TheVariants.{Cancel, Poll, Start}
 use Rattle.ftp_calls.specs.declared.call.Event.TheVariants as kinds
 use Rattle.ftp_dialogue.specs.Coding.{Coding}
 use Rattle.ftp_dialogue.specs.Link.{Builds, builds_nothing, over_memory}
-use Rattle.ftp_dialogue.specs.CatchingUp.{CatchesUp, is_behind, is_plain_read}
+use Rattle.ftp_dialogue.specs.CatchingUp.{CatchesUp, reads_dropped_first, is_plain_read}
 use Rattle.ftp_dialogue.proofs.CatchingUpLemmas.{behind_going}
 use Rattle.ftp_control.specs.Channel.{IsSound}
 use Rattle.ftp_transport.specs.Memory.{IsGiven}
@@ -85,18 +85,14 @@ module _ (builds : Builds) (coding : Coding) (outcomes left : List NetOutcome) (
   pub parts_known : (event : Event) → parts s event ≡ parts_here call course v event
   parts_known kinds.Poll = reads_known
   parts_known kinds.Cancel = drops_known
-  parts_known (kinds.Feed more) = refl
-  parts_known kinds.End = refl
-  parts_known (kinds.Room more) = refl
-  parts_known (kinds.Start next) = refl
-  parts_known kinds.Leave = refl
+  parts_known other = refl
 
 -- it is so in a session that goes on
 pub reads_going : (call : Option Call) (course : Course) (v : SessionValue) → reads_here call course v ≡ true → v.channel.failed ≡ false
 reads_going None course v reads = let clash : false ≡ true = reads in cc
 reads_going (Some call) course v reads = behind_going call v (go course.polled reads)
   where
-    go : (p : Bool) → (not p && is_behind call v) ≡ true → is_behind call v ≡ true
+    go : (p : Bool) → (not p && reads_dropped_first call v) ≡ true → reads_dropped_first call v ≡ true
     go false is = is
     go true is = let clash : false ≡ true = is in cc
 

@@ -35,10 +35,10 @@ use Rattle.ftp_calls.specs.declared.exchange.Turn.TheVariants.{First}
 use Rattle.ftp_calls.specs.declared.exchange.Exchange.{Exchange}
 use Rattle.ftp_calls.specs.declared.exchange.Row.{Row}
 use Rattle.ftp_calls.specs.declared.exchange.Row.TheVariants.{Exchanges, Arms, Resyncs, Sets, Moves}
-use Rattle.ftp_calls.specs.Exchanges.{is_read, reads, row_of}
+use Rattle.ftp_calls.specs.Exchanges.{finishes, is_read, reads, row_of}
 use Rattle.ftp_dialogue.specs.declared.state.State.{State}
 use Rattle.ftp_dialogue.specs.declared.stage.Stage.{Stage}
-use Rattle.ftp_dialogue.specs.declared.stage.Stage.TheVariants.{At, Saying, Hearing, Arming, Resyncing, OpeningData, Closing, Aborting, Transferring}
+use Rattle.ftp_dialogue.specs.declared.stage.Stage.TheVariants.{At, Composing, Saying, Hearing, Seeking, SettingOffset, OpeningData, Transferring, Closing}
 use Rattle.ftp_dialogue.specs.declared.model.PlayState.{PlayState}
 use Rattle.ftp_dialogue.specs.declared.model.Wait.{Wait}
 use Rattle.ftp_dialogue.specs.declared.model.Wait.TheVariants as wait
@@ -55,7 +55,9 @@ use Rattle.ftp_dialogue.specs.Dialogue.{sought}
 use Rattle.ftp_dialogue.specs.Dialogue.{expecting}
 use Rattle.ftp_base.specs.declared.status.Status.TheVariants.{CommandOk}
 use Rattle.ftp_dialogue.proofs.ResyncLemmas.{others, seeking_is}
-use Rattle.ftp_dialogue.specs.declared.stage.Resyncing.TheVariants.{Wording, Sending, Seeking}
+use Rattle.ftp_dialogue.specs.declared.stage.AfterClose.TheVariants.{Finishes, Aborts, Fetched as FetchedAll}
+use Rattle.ftp_dialogue.specs.declared.stage.AfterLine.TheVariants.{Hears, Recovers}
+use Rattle.ftp_dialogue.specs.declared.stage.Recovery.TheVariants.{Abort, Resync}
 use Rattle.ftp_dialogue.specs.Dialogue.{Expected, expected_of, Tree, Say, Hear, Look, Ask, Build, Secure, Move, Leaf, saying, after_fault_of, awaiting, armed, doing, exchanging, concluded, later, set_to, answer_to_fault, dialogue}
 use Rattle.ftp_dialogue.specs.declared.model.NetOutcome.{NetOutcome}
 use Rattle.ftp_dialogue.specs.declared.model.NetOutcome.TheVariants as came
@@ -103,10 +105,7 @@ reply_found rule form ended ((b ∷ line) ∷ lines) bytes code is =
 
 abbrev bytes_of : Outcome → List ℕ
 bytes_of (Whole bytes code) = bytes
-bytes_of (Bad line) = []
-bytes_of TooLarge = []
-bytes_of Ended = []
-bytes_of Waits = []
+bytes_of other = []
 
 -- what says too little is no whole reply
 unfinished : (count : ℕ) (ended : Bool) (reply : List ℕ) (code : ℕ) → within count ended Unfinished ≡ Whole reply code → ⊥
@@ -359,6 +358,10 @@ module _ (coding : Coding) (room : Room) (script : Script) (s : PlayState) (unta
   never_waits : {A : Type 0} (state : State) → play room (Leaf answers.Unit state) s ≡ Pending how t → A
   never_waits state is = let clash : Done answers.Unit (record s { state = state }) ≡ Pending how t = sym (play-Leaf room answers.Unit state s) ∙ is in cc
 
+  -- a call that needs no data connection brings no transfer to its end
+  unlike : {A : Type 0} (call : Call) → finishes call ≡ true → needs_data call ≡ false → A
+  unlike call ends plain = let clash : true ≡ false = sym (finishing_moves call ends) ∙ (needs_none call plain).1 in cc
+
   -- at each stage of a call
   pub lacks_room : (call : Call) (state : State) (stage : Stage) → needs_data call ≡ false → StageOf call stage → play room (remaining coding call state stage) s ≡ Pending how t → LacksRoomFor room s (remaining coding call state stage)
   lacks_room call state (At turn) plain stage_of is = row (row_of call turn) refl is
@@ -377,16 +380,19 @@ module _ (coding : Coding) (room : Room) (script : Script) (s : PlayState) (unta
       row Resyncs at is = noop_lacks state is
       row (Sets setting) at is = never_waits (set_to setting state) is
       row (Moves moves) at is = absurd (turn_abroad call turn (Moves moves) at refl stage_of)
-  lacks_room call state (Saying line a) plain stage_of is = says_more (due line) (expected_of a.hears) a.ending state (later coding call a.turn) is
+  lacks_room call state (Composing Abort) plain stage_of is = unlike call (aborts_finish call stage_of) plain
+  lacks_room call state (Composing (Resync turn)) plain stage_of is = noop_lacks state is
+  lacks_room call state (Saying line (Hears a)) plain stage_of is = says_more (due line) (expected_of a.hears) a.ending state (later coding call a.turn) is
+  lacks_room call state (Saying line (Recovers Abort)) plain stage_of is = unlike call (aborts_finish call stage_of) plain
+  lacks_room call state (Saying line (Recovers (Resync turn))) plain stage_of is = says_seeking (due line) state is
   lacks_room call state (Hearing a) plain stage_of is = absurd (hears_none (expected_of a.hears) a.ending state (later coding call a.turn) s.said s.unsent is)
-  lacks_room call state (Arming turn offset) plain stage_of is = never_waits (armed offset state) is
-  lacks_room call state (Resyncing turn Wording) plain stage_of is = noop_lacks state is
-  lacks_room call state (Resyncing turn (Sending line)) plain stage_of is = says_seeking (due line) state is
-  lacks_room call state (Resyncing turn (Seeking left)) plain stage_of is = absurd (seeking_none left state s.said s.unsent is)
+  lacks_room call state (Seeking turn left) plain stage_of is = absurd (seeking_none left state s.said s.unsent is)
+  lacks_room call state (SettingOffset turn offset) plain stage_of is = never_waits (armed offset state) is
   lacks_room call state (OpeningData way) plain stage_of is = let clash : true ≡ false = sym stage_of.0 ∙ (needs_none call plain).0 in cc
-  lacks_room call state Closing plain stage_of is = let clash : true ≡ false = sym (finishing_moves call stage_of) ∙ (needs_none call plain).1 in cc
-  lacks_room call state (Aborting abort) plain stage_of is = let clash : true ≡ false = sym (finishing_moves call (aborts_finish call stage_of)) ∙ (needs_none call plain).1 in cc
   lacks_room call state (Transferring fetching) plain stage_of is = let clash : true ≡ false = sym (fetch_opens call fetching stage_of) ∙ (needs_none call plain).0 in cc
+  lacks_room call state (Closing Finishes) plain stage_of is = unlike call stage_of plain
+  lacks_room call state (Closing Aborts) plain stage_of is = unlike call (aborts_finish call stage_of) plain
+  lacks_room call state (Closing (FetchedAll form answer)) plain stage_of is = let clash : true ≡ false = sym stage_of.0.0 ∙ (needs_none call plain).0 in cc
 
 -- a call that says a line first is no plain read
 pub says_no_read : (coding : Coding) (call : Call) (state : State) (line : List ℕ) (next : Tree) → TurnOf call First → dialogue coding call state ≡ Say (Ok line) next → is_read call ≡ false
@@ -402,7 +408,4 @@ says_no_read coding call state line next plain is = row (row_of call First) refl
 
     row : (r : Row) → row_of call First ≡ r → doing coding r state (later coding call First) ≡ Say (Ok line) next → is_read call ≡ false
     row (Exchanges e) at is = go e at is e.says refl
-    row (Arms offset) at is = ap reads at
-    row Resyncs at is = ap reads at
-    row (Sets setting) at is = ap reads at
-    row (Moves moves) at is = ap reads at
+    row other at is = ap reads at

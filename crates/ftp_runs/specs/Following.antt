@@ -25,7 +25,7 @@ use Rattle.ftp_dialogue.specs.declared.stage.Stage.TheVariants.{At}
 use Rattle.ftp_dialogue.specs.State.{SessionValue, LetsGo}
 use Rattle.ftp_dialogue.specs.Coding.{Coding}
 use Rattle.ftp_calls.specs.Exchanges.{drains, finishes, is_local, is_read}
-use Rattle.ftp_dialogue.specs.CatchingUp.{CatchesUp, InStepIf, is_behind, is_plain_read}
+use Rattle.ftp_dialogue.specs.CatchingUp.{CatchesUp, InStepIf, reads_dropped_first, is_plain_read}
 use Rattle.ftp_dialogue.specs.Dropping.{DropsCall as DropsStage}
 use Rattle.ftp_dialogue.specs.Dialogue.{dialogue}
 use Rattle.ftp_dialogue.specs.Resuming.{Modes, Resumes, modes_of}
@@ -289,7 +289,7 @@ LeavesNow (Some call) course v w course' = LeavesBeside course.polled (finishes 
 
 abbrev pub reads_here : Option Call → Course → SessionValue → Bool
 reads_here None course v = false
-reads_here (Some call) course v = not course.polled && is_behind call v
+reads_here (Some call) course v = not course.polled && reads_dropped_first call v
 
 abbrev pub parts_here : Option Call → Course → SessionValue → Event → Bool
 parts_here call course v Polling = reads_here call course v
@@ -344,7 +344,7 @@ Passes builds coding v w call call' stage stage' course course' event result =
 
 -- it is made in step
 abbrev pub MadeInStep : Link → Coding → Call → SessionValue → SessionValue → Answer → Type 0
-MadeInStep link coding call old new answer = InStepIf (is_behind call old) (unasked link) (is_plain_read call) (drains call) (MadeDrained link coding call) old new answer
+MadeInStep link coding call old new answer = InStepIf (reads_dropped_first call old) (unasked link) (is_plain_read call) (drains call) (MadeDrained link coding call) old new answer
 
 -- where replies were due at the list's beginning; else by itself
 abbrev pub MadeAmong : Bool → Link → Coding → Call → SessionValue → SessionValue → Answer → Type 0

@@ -15,7 +15,7 @@ use Rattle.ftp_dialogue.specs.NetEvents.{NetEvent}
 use Rattle.ftp_calls.specs.Exchanges.{is_local}
 use Rattle.ftp_dialogue.specs.Dialogue.{dialogue}
 use Rattle.ftp_dialogue.specs.Play.{Taken}
-use Rattle.ftp_dialogue.specs.CatchingUp.{PlaysInStep, is_behind}
+use Rattle.ftp_dialogue.specs.CatchingUp.{PlaysInStep, reads_dropped_first}
 use Rattle.ftp_dialogue.specs.Promises.{However, Goes, IsRefusal, Plays, IsPlayed, refusal_of, Aborts, begun_by, due_of}
 use Rattle.ftp_runs.specs.Run.{run, before, OneView}
 use Rattle.ftp_dialogue.specs.Link.{Link}
@@ -107,7 +107,7 @@ pub record RunCatchesUp (link : Link) (coding : Coding) (calls to_make : List Ca
   pub made : List Call
   pub before : SessionValue
   pub ran : RanTo link coding calls (call ∷ made ++ to_make) old before first
-  pub behind : is_behind call before ≡ true
+  pub behind : reads_dropped_first call before ≡ true
   pub later : List Answer
   pub answers_are : answers ≡ first ++ later
   pub makes : Makes true link coding (call ∷ made) before new later

@@ -155,8 +155,8 @@ where
         (coding_of E.decoded E.encoded encoding.now)
         call.now machine.old machine.new result }
 {
-    if machine.is_behind(call) {
-        match machine.poll_catch_up(alloc, call, &mut NeverWaits) {
+    if machine.reads_dropped_first(call) {
+        match machine.poll_dropped_replies(alloc, call, &mut NeverWaits) {
             Poll::Ready(None) => {
                 if drains(call) {
                     return Answer::Unit;

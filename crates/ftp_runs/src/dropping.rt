@@ -86,7 +86,7 @@ fn leave_held(machine: &mut Machine<MemoryTransport>, alloc: Global)
     ensures leaves { HasLeft machine.old machine.new }
 {
     if machine.holds_transfer() {
-        told_to_nobody(machine.carry(alloc, &Call::Leave));
+        told_to_nobody(machine.local_call(alloc, &Call::Leave));
     }
     holds_memory(machine);
 }

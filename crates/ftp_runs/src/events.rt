@@ -27,7 +27,7 @@ use ftp_base::encoding::Encoding;
 use ftp_base::types::{FtpError, FtpResult};
 use ftp_calls::call::Event;
 use ftp_calls::exchange::{Turn, drains, is_local};
-use ftp_dialogue::asks::By;
+use ftp_dialogue::data_path::BlockingData;
 use ftp_dialogue::machine::Machine;
 use ftp_dialogue::stage::Stage;
 use ftp_dialogue::unless_unit;
@@ -265,7 +265,7 @@ fn reads_first<'e>(
     ensures { result ≡ reads_here (option_map (λ c. c.now) under_way.now) course.now machine.now }
 {
     match *under_way {
-        Some(call) => !course.polled && machine.is_behind(call),
+        Some(call) => !course.polled && machine.reads_dropped_first(call),
         None => false,
     }
 }
@@ -299,7 +299,7 @@ fn poll_behind<'e, E: Encoding, B: PassiveStreamBuilder<MemoryConn>>(
     };
     // It wasn't polled, so that no transfer is to be left behind it.
     *course = resting();
-    let caught = machine.poll_catch_up(alloc, call, &mut ());
+    let caught = machine.poll_dropped_replies(alloc, call, &mut ());
     holds_memory(machine);
     match caught {
         Poll::Pending => None,
@@ -424,7 +424,14 @@ fn poll_here<E: Encoding, B: PassiveStreamBuilder<MemoryConn>>(
     if is_local(call) {
         return carry_here(machine, alloc, builder, encoding, call, stage);
     }
-    let polled = machine.poll_started(&By(&(), builder), alloc, encoding, call, stage, &mut ());
+    let polled = machine.poll_started(
+        &BlockingData(&(), builder),
+        alloc,
+        encoding,
+        call,
+        stage,
+        &mut (),
+    );
     holds_memory(machine);
     polled
 }
@@ -445,7 +452,7 @@ fn carry_here<E: Encoding, B: PassiveStreamBuilder<MemoryConn>>(
         _encoding.now) call.now _stage.old
         _stage.new machine.old machine.new result }
 {
-    let answer = machine.carry(alloc, call);
+    let answer = machine.local_call(alloc, call);
     holds_memory(machine);
     Poll::Ready(answer)
 }

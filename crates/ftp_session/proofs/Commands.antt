@@ -13,7 +13,7 @@ use Rattle.ftp_control.specs.Grammar.{outcome, left_by}
 use Rattle.ftp_control.specs.Answer.{is_among}
 use Rattle.ftp_transport.specs.declared.room.Room.TheVariants.{Any}
 use Rattle.ftp_calls.specs.Exchanges.{drains, drains_first, finishes, is_local, is_read, negotiates, of_transfer, resyncs}
-use Rattle.ftp_dialogue.specs.CatchingUp.{InStepIf, is_behind, is_late, is_plain_read, opens_beside}
+use Rattle.ftp_dialogue.specs.CatchingUp.{InStepIf, reads_dropped_first, has_dropped_replies, is_plain_read, opens_beside}
 use Rattle.ftp_dialogue.specs.declared.state.Owed.{Owed}
 use Rattle.ftp_dialogue.proofs.CatchingUpLemmas.{step_map}
 use Rattle.ftp_calls.specs.declared.call.Call.{Call}
@@ -219,10 +219,10 @@ opens_none_beside call o none seeks_none =
     nothing true = refl
     nothing false = refl
 
-behind_is : (call : Call) (v : SessionValue) → IsOneCommand call → is_behind call v ≡ is_late v
+behind_is : (call : Call) (v : SessionValue) → IsOneCommand call → reads_dropped_first call v ≡ has_dropped_replies v
 behind_is call v sort =
-    let F : Bool → Bool → Bool = λ d o. is_late v && (d || drains call) && not o in
-    ap (λ d. F d (opens_beside call v.state.counts.owed)) sort.4 ∙ ap (λ o. F true o) (opens_none_beside call v.state.counts.owed sort.0 sort.6) ∙ all (is_late v) (drains call)
+    let F : Bool → Bool → Bool = λ d o. has_dropped_replies v && (d || drains call) && not o in
+    ap (λ d. F d (opens_beside call v.state.counts.owed)) sort.4 ∙ ap (λ o. F true o) (opens_none_beside call v.state.counts.owed sort.0 sort.6) ∙ all (has_dropped_replies v) (drains call)
   where
     all : (b d : Bool) → b && (true || d) && not false ≡ b
     all true d = refl
@@ -240,9 +240,9 @@ plays_command link coding call plain tree mark after old new answer is read seen
     let v = as_seen after old in
     let M : SessionValue → SessionValue → Answer → Type 0 = λ v w a. FollowsIf (is_reply_due v) link tree v w a in
     let B : Bool → Type 0 = λ b. InStepIf b (unasked link) (is_plain_read call) (drains call) (Plays link coding call) v new answer in
-    let P : Bool → Type 0 = λ p. InStepIf (is_late v) (unasked link) p (drains call) (Plays link coding call) v new answer in
-    let D : Bool → Type 0 = λ d. InStepIf (is_late v) (unasked link) plain d (Plays link coding call) v new answer in
-    record { looks = seen.looks; plays = step_map (is_late v) (unasked link) plain false (Plays link coding call) M v new answer follows (subst D is.sort.5 (subst P (plain_is call plain read is.sort.5) (subst B (behind_is call v is.sort) seen.plays.plays))) }
+    let P : Bool → Type 0 = λ p. InStepIf (has_dropped_replies v) (unasked link) p (drains call) (Plays link coding call) v new answer in
+    let D : Bool → Type 0 = λ d. InStepIf (has_dropped_replies v) (unasked link) plain d (Plays link coding call) v new answer in
+    record { looks = seen.looks; plays = step_map (has_dropped_replies v) (unasked link) plain false (Plays link coding call) M v new answer follows (subst D is.sort.5 (subst P (plain_is call plain read is.sort.5) (subst B (behind_is call v is.sort) seen.plays.plays))) }
   where
     goes : (b : Bool) (first : Answer) (middle w : SessionValue) (a : Answer) → MakesAfter b first (PlaysAlone link coding call) middle w a → MakesAfter b first (MakesCommand link tree) middle w a
     goes true first middle w a alone = makes_command link coding call tree middle w a is alone

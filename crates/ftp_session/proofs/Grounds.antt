@@ -14,7 +14,7 @@ use Rattle.ftp_calls.specs.declared.call.Answer.TheVariants.{Fault}
 use Rattle.ftp_calls.specs.declared.call.Answer.TheVariants as answer
 use Rattle.ftp_calls.specs.declared.call.Call.{Call}
 use Rattle.ftp_calls.specs.declared.call.Call.TheVariants as call
-use Rattle.ftp_dialogue.specs.CatchingUp.{After, CatchesUp, Flushes, InStepIf, MakesThen, PlaysInStep, ReadsDue, ReadsIf, ReadsOne, fault_told, flushing, is_behind, is_caught_up, is_plain_read, told_by}
+use Rattle.ftp_dialogue.specs.CatchingUp.{After, CatchesUp, Flushes, InStepIf, MakesThen, PlaysInStep, ReadsDue, ReadsIf, ReadsOne, fault_told, flushing, reads_dropped_first, is_caught_up, is_plain_read, told_by}
 use Rattle.ftp_dialogue.specs.Coding.{Coding}
 use Rattle.ftp_dialogue.specs.Counted.{CountsFailure, IsGivenBeside}
 use Rattle.ftp_dialogue.specs.Dialogue.{Expected, Tree, Say, Hear, Leaf, dialogue, expecting}
@@ -372,7 +372,7 @@ module _ (Good : Answer → Type 0) (link : Link) (Asks : Type 0) (May : State �
           after_drain Good link Asks May (PlaysAlone link coding called) alone old new told drains.middle drains.first first (is_unit drains.first) refl drains.then_makes
 
   pub step_results : (drains called ≡ true → Good answer.Unit) → (old new : SessionValue) (told : Answer) → PlaysInStep link coding called old new told → Results Good link Asks May old new told
-  step_results over old new told step = in_step Good link Asks May (Plays link coding called) plays_results old new told (is_behind called old) (is_plain_read called) (drains called) over step.plays
+  step_results over old new told step = in_step Good link Asks May (Plays link coding called) plays_results old new told (reads_dropped_first called old) (is_plain_read called) (drains called) over step.plays
 
 -- The reasons alone
 

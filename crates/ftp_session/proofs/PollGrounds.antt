@@ -20,7 +20,7 @@ use Rattle.ftp_calls.specs.declared.exchange.Ending.TheVariants as ending
 use Rattle.ftp_calls.specs.declared.exchange.Fetch.{Fetch}
 use Rattle.ftp_calls.specs.declared.exchange.Turn.TheVariants.{First, Closed}
 use Rattle.ftp_transfer.specs.Mark.{End}
-use Rattle.ftp_dialogue.specs.CatchingUp.{CatchesUp, is_behind, is_plain_read, CatchesUpReadIf, CatchesUpThenReads, PollsReadInStep, ReadsThen, is_late}
+use Rattle.ftp_dialogue.specs.CatchingUp.{CatchesUp, reads_dropped_first, is_plain_read, CatchesUpReadIf, CatchesUpThenReads, PollsReadInStep, ReadsThen, has_dropped_replies}
 use Rattle.ftp_dialogue.specs.Coding.{Coding}
 use Rattle.ftp_dialogue.specs.Counted.{CountsFailure, IsGivenBeside, CountsFaults}
 use Rattle.ftp_dialogue.specs.Dialogue.{Tree, Leaf, closed_as, concluded, fetch_ending, later, told_of_close, with_fetched, with_finished, Expected}
@@ -36,8 +36,10 @@ use Rattle.ftp_dialogue.specs.Steps.Stages.{MayGive, begun_at, remaining}
 use Rattle.ftp_dialogue.specs.Within.{MayHear, Within}
 use Rattle.ftp_dialogue.specs.declared.model.NetOutcome.TheVariants as came
 use Rattle.ftp_dialogue.specs.declared.stage.Stage.{Stage}
-use Rattle.ftp_dialogue.specs.declared.stage.Stage.TheVariants.{At, Saying, Hearing, Transferring}
-use Rattle.ftp_dialogue.specs.declared.stage.Transferring.TheVariants as fetch
+use Rattle.ftp_dialogue.specs.declared.stage.Stage.TheVariants.{At, Saying, Hearing, Transferring, Closing}
+use Rattle.ftp_dialogue.specs.declared.stage.AfterClose.TheVariants.{Fetched}
+use Rattle.ftp_dialogue.specs.declared.stage.AfterLine.TheVariants.{Hears}
+use Rattle.ftp_dialogue.specs.declared.stage.Transferring.TheVariants.{Ending as LastReply}
 use Rattle.ftp_dialogue.specs.declared.state.State.{State}
 use Rattle.ftp_dialogue.specs.PollCauses.{CausesAnswer, CausesPoll, TakesNoMore, error_of, kept_by, kept_error}
 use Rattle.ftp_session.specs.Polled.{CatchesUpThenPolls, CountsPoll, DrainsFirst, EndsOrPolls, LooksFirst, PollsCall, PollsInStep, PollsInStepIf, PollsNext, PollsNextIf, PollsUnless, ThenPolls, ThenStarts, ThenStartsIf, UnderWay, IfFails}
@@ -87,11 +89,10 @@ module _ (Asks : Type 0) (fault : FtpError) (grave : IsGrave fault) (coding : Co
   of_stage May called (At (Closed (Some kind))) is = (λ backed. of_ending May (ending.Finishes (Some kind)) (later coding called (Closed (Some kind))) is backed.0, λ told left leaf. cc leaf)
   of_stage May called (At (Closed None)) is = cc is
   of_stage May called (At other) is = cc is
-  of_stage May called (Saying line a) is = (λ backed. of_ending May a.ending (later coding called a.turn) is backed.0, λ told left leaf. cc leaf)
+  of_stage May called (Saying line (Hears a)) is = (λ backed. of_ending May a.ending (later coding called a.turn) is backed.0, λ told left leaf. cc leaf)
   of_stage May called (Hearing a) is = (λ backed. of_ending May a.ending (later coding called a.turn) is backed.0, λ told left leaf. cc leaf)
-  of_stage May called (Transferring (fetch.ClosingData form first)) is = (λ backed. of_closing May form first state.uploads is (backed came.Closed), λ told left leaf. cc leaf)
-  of_stage May called (Transferring (fetch.Ending form first)) is = (λ backed. of_data May form first is backed, λ told left leaf. cc leaf)
-  of_stage May called (Transferring other) is = cc is
+  of_stage May called (Closing (Fetched form first)) is = (λ backed. of_closing May form first state.uploads is (backed came.Closed), λ told left leaf. cc leaf)
+  of_stage May called (Transferring (LastReply form first)) is = (λ backed. of_data May form first is backed, λ told left leaf. cc leaf)
   of_stage May called other is = cc is
 
 -- A call that starts or goes on
@@ -205,7 +206,7 @@ module _ (link : Link) (may_wait : Type 0) (coding : Coding) where
 
       -- and after the replies that are due to commands that were dropped
       pub step_follows : (stage' : Stage) (behind : Bool) (v w : SessionValue) (result : Poll Answer) → PollsInStep link may_wait coding called stage stage' behind v w result → Follows (kept_error stage') v w result
-      step_follows stage' behind v w result step = go (is_behind called v) step.polls
+      step_follows stage' behind v w result step = go (reads_dropped_first called v) step.polls
         where
           caught : (c : CatchesUpThenPolls link may_wait coding called stage stage' behind v w result) → Follows (kept_error stage') v w result
           caught c = first c.caught c.catches_up c.then_polls
@@ -401,7 +402,7 @@ module _ (link : Link) (codes : Expected) (fault : FtpError) where
         go Pending catches waits = (let wrong : ◌≡◌ {A = Poll (Result Response FtpError)} (Ready (Err fault)) Pending = waits.0 in cc)
 
     step_faults : (old new : SessionValue) → PollsReadInStep link coding codes old new (Ready (Err fault)) → Counts link old new fault
-    step_faults old new step = go (is_late old) step.reads
+    step_faults old new step = go (has_dropped_replies old) step.reads
       where
         go : (b : Bool) → CatchesUpReadIf b link coding codes old new (Ready (Err fault)) → Counts link old new fault
         go true catches = caught_faults old new catches

@@ -13,7 +13,7 @@ use Rattle.ftp_calls.specs.declared.call.Answer.TheVariants.{Fault, Reply}
 use Rattle.ftp_calls.specs.declared.call.Call.TheVariants.{CustomCommand}
 use Rattle.ftp_calls.specs.declared.exchange.Codes.TheVariants.{Given}
 use Rattle.ftp_transfer.specs.Mark.{End}
-use Rattle.ftp_dialogue.specs.CatchingUp.{is_late}
+use Rattle.ftp_dialogue.specs.CatchingUp.{has_dropped_replies}
 use Rattle.ftp_dialogue.specs.Coding.{Coding}
 use Rattle.ftp_dialogue.specs.Counted.{CountsFailure}
 use Rattle.ftp_dialogue.specs.Dialogue.{Tree}
@@ -81,7 +81,7 @@ module _ (link : Link) (coding : Coding) (tree : State → Tree) (backed : (stat
   plays_results mark after old new told plays =
       let v = as_seen after old in
       after_calm Any link ⊥ Never old v new told (calm_seen link after old)
-      (in_step Any link ⊥ Never (λ x y a. FollowsIf (is_reply_due x) link tree x y a) follows_results v new told (is_late v) false false (λ is. tt) plays.plays)
+      (in_step Any link ⊥ Never (λ x y a. FollowsIf (is_reply_due x) link tree x y a) follows_results v new told (has_dropped_replies v) false false (λ is. tt) plays.plays)
 
 -- a line of the caller's, of which one status is accepted
 abbrev Sends : Link → Coding → List ℕ → Status → Option End → Option End → SessionValue → SessionValue → Answer → Type 0

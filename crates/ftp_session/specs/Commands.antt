@@ -13,7 +13,7 @@ use Rattle.ftp_dialogue.specs.declared.model.PlayState.{PlayState}
 use Rattle.ftp_dialogue.specs.declared.state.State.{State}
 use Rattle.ftp_dialogue.specs.NetEvents.{NetEvent, outcomes_of}
 use Rattle.ftp_dialogue.specs.Dialogue.{Expected, Tree, Say, Hear, Leaf}
-use Rattle.ftp_dialogue.specs.CatchingUp.{InStepIf, is_late}
+use Rattle.ftp_dialogue.specs.CatchingUp.{InStepIf, has_dropped_replies}
 use Rattle.ftp_dialogue.specs.Link.{Link, unasked}
 use Rattle.ftp_dialogue.specs.Play.{is_unit, taken}
 use Rattle.ftp_dialogue.specs.Promises.{Aborts, Completes, Goes, IsFault, IsSilent, IsSuccess, IsWithheld, MakesAfter, play_state}
@@ -97,7 +97,7 @@ FollowsIf false link tree old new answer = MakesCommand link tree old new answer
 -- to commands that were dropped; a plain read reads none of them first, and its own reply is one
 pub record PlaysBy (plain : Bool) (link : Link) (tree : State → Tree) (mark after : Option End) (old new : SessionValue) (answer : Answer) : Type 0 where
   pub looks : LooksIf (watches mark old) mark after
-  pub plays : InStepIf (is_late (as_seen after old)) (unasked link) plain false (λ v w a. FollowsIf (is_reply_due v) link tree v w a) (as_seen after old) new answer
+  pub plays : InStepIf (has_dropped_replies (as_seen after old)) (unasked link) plain false (λ v w a. FollowsIf (is_reply_due v) link tree v w a) (as_seen after old) new answer
 
 abbrev pub PlaysCommand : Link → (State → Tree) → Option End → Option End → SessionValue → SessionValue → Answer → Type 0
 PlaysCommand link tree mark after old new answer = PlaysBy false link tree mark after old new answer

@@ -17,7 +17,7 @@ use Rattle.ftp_dialogue.specs.Coding.{Coding}
 use Rattle.ftp_dialogue.specs.Counted.{CountsFaults}
 use Rattle.ftp_dialogue.specs.Dropping.{DropsCall}
 use Rattle.ftp_calls.specs.Exchanges.{drains}
-use Rattle.ftp_dialogue.specs.CatchingUp.{CatchesUp, is_behind, is_plain_read}
+use Rattle.ftp_dialogue.specs.CatchingUp.{CatchesUp, reads_dropped_first, is_plain_read}
 use Rattle.ftp_dialogue.specs.Link.{Link, unasked}
 use Rattle.ftp_dialogue.specs.Play.{is_unit}
 use Rattle.ftp_dialogue.specs.Promises.{IsFault, due_of}
@@ -103,7 +103,7 @@ PollsInStepIf false link may_wait coding call stage stage' behind old new result
 
 -- where none is due the call is polled at once; else it may still be behind, and has said nothing
 pub record PollsInStep (link : Link) (may_wait : Type 0) (coding : Coding) (call : Call) (stage stage' : Stage) (behind : Bool) (old new : SessionValue) (result : Poll Answer) : Type 0 where
-  pub polls : PollsInStepIf (is_behind call old) link may_wait coding call stage stage' behind old new result
+  pub polls : PollsInStepIf (reads_dropped_first call old) link may_wait coding call stage stage' behind old new result
 
 -- a poll of a call that has no answer yet
 pub record PollsSeen (link : Link) (may_wait : Type 0) (coding : Coding) (p q : UnderWay) (mark after : Option End) (old new : SessionValue) (result : Poll Answer) : Type 0 where

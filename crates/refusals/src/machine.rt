@@ -3,7 +3,7 @@
 ghost use Rattle.std.specs.Prelude.{◌≡◌, ◌⊎◌, true, false};
 ghost use Rattle.futures.specs.declared.task.Poll.TheVariants as poll;
 ghost use Rattle.ftp_calls.specs.Exchanges.{drains, is_local, negotiates, of_transfer};
-ghost use Rattle.ftp_dialogue.specs.CatchingUp.{CatchesUp, InStepIf, PollsReadInStep, is_behind, is_plain_read};
+ghost use Rattle.ftp_dialogue.specs.CatchingUp.{CatchesUp, InStepIf, PollsReadInStep, reads_dropped_first, is_plain_read};
 ghost use Rattle.ftp_dialogue.specs.Coding.{coding_of};
 ghost use Rattle.ftp_dialogue.specs.Dropping.{DropsCall};
 ghost use Rattle.ftp_dialogue.specs.Link.{asking, blocking, polling};
@@ -16,7 +16,7 @@ ghost use Rattle.ftp_dialogue.specs.Steps.Stages.{MayAnswer};
 use ftp_base::encoding::Encoding;
 use ftp_base::status::Status;
 use ftp_base::types::{FtpError, FtpResult, Response};
-use ftp_dialogue::asks::Asks;
+use ftp_dialogue::data_path::DataPath;
 use ftp_dialogue::machine::Machine;
 use ftp_dialogue::stage::Stage;
 use ftp_dialogue::{Answer, Call};
@@ -25,9 +25,9 @@ use futures::task::Poll;
 use std::alloc::Global;
 
 /// `Machine::call`.
-pub fn call<Tr: Network, E: Encoding, A: Asks<Tr, NeverWaits>>(
+pub fn call<Tr: Network, E: Encoding, A: DataPath<Tr, NeverWaits>>(
     machine: &mut Machine<Tr>,
-    asker: &A,
+    data_path: &A,
     alloc: Global,
     encoding: &E,
     call: &Call,
@@ -38,16 +38,16 @@ where
     requires channel { is_local call.now ≡ false }
     requires blocks { A.may_wait → ⊥ }
     ensures answers { of_transfer call.now ≡ false → MayAnswer call.now result }
-    ensures made { MadeDrained (asking (A.builds asker.now) A.may_wait (blocking Tr.Conn.Conn))
+    ensures made { MadeDrained (asking (A.builds data_path.now) A.may_wait (blocking Tr.Conn.Conn))
         (coding_of E.decoded E.encoded encoding.now) call.now machine.old machine.new result }
 {
-    machine.call(asker, alloc, encoding, call)
+    machine.call(data_path, alloc, encoding, call)
 }
 
 /// `Machine::call_alone`.
-pub fn call_alone<Tr: Network, E: Encoding, A: Asks<Tr, NeverWaits>>(
+pub fn call_alone<Tr: Network, E: Encoding, A: DataPath<Tr, NeverWaits>>(
     machine: &mut Machine<Tr>,
-    asker: &A,
+    data_path: &A,
     alloc: Global,
     encoding: &E,
     call: &Call,
@@ -58,16 +58,16 @@ where
     requires channel { is_local call.now ≡ false }
     requires blocks { A.may_wait → ⊥ }
     ensures answers { (refusal_of call.now machine.old ≡ Lacking → ⊥) → MayAnswer call.now result }
-    ensures made { Made (asking (A.builds asker.now) A.may_wait (blocking Tr.Conn.Conn))
+    ensures made { Made (asking (A.builds data_path.now) A.may_wait (blocking Tr.Conn.Conn))
         (coding_of E.decoded E.encoded encoding.now) call.now machine.old machine.new result }
 {
-    machine.call_alone(asker, alloc, encoding, call)
+    machine.call_alone(data_path, alloc, encoding, call)
 }
 
 /// `Machine::call_in_step`.
-pub fn call_in_step<Tr: Network, E: Encoding, A: Asks<Tr, NeverWaits>>(
+pub fn call_in_step<Tr: Network, E: Encoding, A: DataPath<Tr, NeverWaits>>(
     machine: &mut Machine<Tr>,
-    asker: &A,
+    data_path: &A,
     alloc: Global,
     encoding: &E,
     call: &Call,
@@ -79,16 +79,16 @@ where
     requires blocks { A.may_wait → ⊥ }
     requires unheld { of_transfer call.now ≡ false }
     ensures answers { MayAnswer call.now result }
-    ensures made { InStepIf (is_behind call.now machine.old) (blocking Tr.Conn.Conn)
+    ensures made { InStepIf (reads_dropped_first call.now machine.old) (blocking Tr.Conn.Conn)
         (is_plain_read call.now) (drains call.now) (MadeDrained
-        (asking (A.builds asker.now) A.may_wait (blocking Tr.Conn.Conn))
+        (asking (A.builds data_path.now) A.may_wait (blocking Tr.Conn.Conn))
         (coding_of E.decoded E.encoded encoding.now) call.now) machine.old machine.new result }
 {
-    machine.call_in_step(asker, alloc, encoding, call)
+    machine.call_in_step(data_path, alloc, encoding, call)
 }
 
-/// `Machine::poll_catch_up`.
-pub fn poll_catch_up<Tr: Network, W>(
+/// `Machine::poll_dropped_replies`.
+pub fn poll_dropped_replies<Tr: Network, W>(
     machine: &mut Machine<Tr>,
     alloc: Global,
     call: &Call,
@@ -101,7 +101,7 @@ where
     ensures catches_up { CatchesUp (polling Tr.Conn.PollConn) (is_plain_read call.now) machine.old
         machine.new result }
 {
-    machine.poll_catch_up(alloc, call, w)
+    machine.poll_dropped_replies(alloc, call, w)
 }
 
 /// `Machine::drop_call`.

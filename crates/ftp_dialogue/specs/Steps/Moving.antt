@@ -1,16 +1,20 @@
 -- What a step of a dialogue does: whatever the server still sends, and whatever room there is, the tree before it and
 -- the tree after it result in the same. Beside what is promised it keeps how much is kept of a reply under way.
-use Rattle.std.specs.Prelude.{◌++◌, ◌==◌, ◌≡◌, ◌<◌, ◌≤◌, ◌+◌, ◌⊎◌, nat_le, ◌∷◌, ℕ, Bool, true, false, ◌&&◌, if◌then◌else◌, Option, None, List, [], drop, length, Result, Ok, Err}
+use Rattle.std.specs.Prelude.{◌++◌, ◌==◌, ◌≡◌, ◌<◌, ◌≤◌, ◌+◌, ◌⊎◌, nat_le, ◌∷◌, ℕ, Bool, true, false, ◌&&◌, if◌then◌else◌, Option, Some, None, List, [], drop, length, Result, Ok, Err}
 use Rattle.futures.specs.declared.task.Poll.{Poll}
 use Rattle.futures.specs.declared.task.Poll.TheVariants as poll
 use Rattle.ftp_base.specs.declared.types.reply.Response.{Response}
 use Rattle.ftp_base.specs.declared.types.fault.FtpError.{FtpError}
-use Rattle.ftp_base.specs.declared.types.fault.FtpError.TheVariants.{ConnectionError, UnexpectedResponse, OutOfMemory, SessionFailed}
+use Rattle.ftp_base.specs.declared.types.fault.FtpError.TheVariants.{ConnectionError, UnexpectedResponse, DataConnectionAlreadyOpen, OutOfMemory, SessionFailed}
+use Rattle.ftp_base.specs.declared.types.fault.ConnectionError.{ConnectionError as Cause}
+use Rattle.ftp_base.specs.Command.{text_of}
+use Rattle.ftp_base.specs.Wire.{wire}
+use Rattle.ftp_control.specs.Refusal.{IsRefusalOf}
 use Rattle.ftp_transport.specs.Told.{IsDry, IsFull}
 use Rattle.std.specs.declared.alloc.AllocError.{AllocError}
 use Rattle.std.specs.declared.io.ErrorKind.{ErrorKind}
 use Rattle.std.specs.declared.net.socket_addr.SocketAddr.{SocketAddr}
-use Rattle.ftp_base.specs.declared.types.fault.ConnectionError.TheVariants.{Io}
+use Rattle.ftp_base.specs.declared.types.fault.ConnectionError.TheVariants.{Io, SourceTooLarge}
 use Rattle.ftp_dialogue.specs.Play.{Taken, play}
 use Rattle.ftp_control.specs.Channel.{untaken}
 use Rattle.ftp_control.specs.Saying.{due, said}
@@ -24,10 +28,16 @@ use Rattle.ftp_calls.specs.declared.call.Call.{Call}
 use Rattle.ftp_calls.specs.declared.exchange.Ending.{Ending}
 use Rattle.ftp_calls.specs.declared.exchange.Ending.TheVariants.{Greets, GivesPath, GivesSecondLine, GivesFeatures, GivesAddress, GivesPort, Opens, Performs}
 use Rattle.ftp_calls.specs.declared.exchange.Fetch.{Fetch}
+use Rattle.ftp_calls.specs.declared.exchange.Task.{Task}
+use Rattle.ftp_calls.specs.declared.exchange.Task.TheVariants as tasks
 use Rattle.ftp_dialogue.specs.declared.gathered.More.{More}
 use Rattle.ftp_dialogue.specs.declared.gathered.More.TheVariants as more
-use Rattle.ftp_dialogue.specs.declared.stage.Transferring.{Transferring as Fetched}
-use Rattle.ftp_dialogue.specs.declared.stage.Transferring.TheVariants as fetch
+use Rattle.ftp_dialogue.specs.declared.stage.Transferring.TheVariants.{Gathering, Sending}
+use Rattle.ftp_dialogue.specs.declared.stage.AfterClose.{AfterClose}
+use Rattle.ftp_dialogue.specs.declared.stage.AfterClose.TheVariants.{Fetched}
+use Rattle.ftp_dialogue.specs.declared.stage.AfterLine.TheVariants.{Recovers}
+use Rattle.ftp_dialogue.specs.declared.stage.Recovery.{Recovery}
+use Rattle.ftp_dialogue.specs.declared.stage.Stage.TheVariants.{Saying, Transferring, Closing}
 use Rattle.ftp_dialogue.specs.declared.stage.Opened.{Opened as Opening}
 use Rattle.ftp_dialogue.specs.declared.stage.Opened.TheVariants.{Gives as GivesAnswer, Performs as PerformsAll}
 use Rattle.ftp_dialogue.specs.declared.model.NetOutcome.TheVariants as came
@@ -50,11 +60,11 @@ use Rattle.ftp_calls.specs.declared.exchange.Row.{Row}
 use Rattle.ftp_calls.specs.declared.exchange.Row.TheVariants.{Exchanges, Arms}
 use Rattle.ftp_calls.specs.declared.exchange.Row.TheVariants as row
 use Rattle.ftp_calls.specs.Exchanges.{is_draining, is_local, is_read, row_of, Kind, Nothing, kind_of, kind_of_task}
-use Rattle.ftp_dialogue.specs.Dialogue.{Expected, End, Tree, Say, Hear, Look, Ask, Build, Secure, Move, Leaf, accepted, asking_passive, chunk, fetched, first_fault, later, moved_answer, performing, too_long, unfetched, wants_memory, with_abandoned, with_fetched, set_to, answer_to_fault, after_fault_of, with_left, dialogue}
-use Rattle.ftp_base.specs.Ascii.{most_bytes}
+use Rattle.ftp_dialogue.specs.Dialogue.{Expected, End, Tree, Say, Hear, Look, Ask, Build, Secure, Move, Leaf, accepted, asking_passive, chunk, fetched, first_fault, later, most_reads, moved_answer, performing, size_to_send, told_of_close, too_long, unfetched, wants_memory, with_abandoned, with_fetched, set_to, answer_to_fault, after_fault_of, with_left, dialogue}
+use Rattle.ftp_base.specs.Ascii.{most_bytes, wire_data}
 use Rattle.ftp_dialogue.specs.Resuming.{Modes, Resumes, Silent, modes_of}
 use Rattle.ftp_dialogue.specs.Promises.{DrainsIf, due_of, AbortsRead, IsFault, Keeps, Leads, Completes, Aborts, However, SaidOrTaken, Untouched, Rests, IsRefused, begun_by, failed_from, refusal_of, IsApart}
-use Rattle.ftp_dialogue.specs.Steps.Stages.{AnswersKind, Begun, NotBegun, StageAfter, StepAnswers, asking_of, nodes_left, remaining, begun_at, is_later}
+use Rattle.ftp_dialogue.specs.Steps.Stages.{AnswersKind, Begun, NotBegun, StageAfter, StepAnswers, asking_of, begun_at, begun_for, command_of, is_barred, is_later, nodes_left, remaining, stage_closed}
 use Rattle.ftp_dialogue.specs.Link.{Link}
 
 -- no more lies ahead than lay there and came
@@ -319,6 +329,28 @@ BeginsExchange coding call turn stage old new Next = (new ≡ old) × Begun codi
 BeginsExchange coding call turn stage old new Pending = ⊥
 BeginsExchange coding call turn stage old new (Done answer) = IsRefusedLine coding call turn old new answer
 
+-- a command beside the exchanges is put into a line, and nothing else happens; or a live transfer keeps it from being
+-- sent, or its line is refused, or finds no memory
+abbrev pub line_to_recover : Coding → Recovery → Result (List ℕ) Cause
+line_to_recover coding recovery = wire coding.encode (text_of (command_of recovery))
+
+pub record ComposesNone (coding : Coding) (recovery : Recovery) (old new : SessionValue) (answer : Answer) : Type 0 where
+  pub fault : FtpError
+  pub is : answer ≡ Fault fault
+  pub cause : ((is_barred recovery old.state ≡ true) × (fault ≡ DataConnectionAlreadyOpen) × (new ≡ old)) ⊎ ((is_barred recovery old.state ≡ false) × IsRefusalOf (line_to_recover coding recovery) fault × (new ≡ after_fault (begun_for recovery) fault old))
+
+abbrev pub Composes : Coding → Recovery → Stage → SessionValue → SessionValue → Step → Type 0
+Composes coding recovery stage old new Next = (is_barred recovery old.state ≡ false) × ((line : List ℕ) × (line_to_recover coding recovery ≡ Ok line) × (stage ≡ Saying (Some line) (Recovers recovery))) × (new ≡ old)
+Composes coding recovery stage old new Pending = ⊥
+Composes coding recovery stage old new (Done answer) = ComposesNone coding recovery old new answer
+
+-- the data connection was closed, and this stage follows
+pub record Closes (tells : Type 0) (after : AfterClose) (stage : Stage) (old new : SessionValue) : Type 0 where
+  pub outcome : NetOutcome
+  pub is : stage ≡ stage_closed after (told_of_close old.state.uploads outcome)
+  pub beside : new ≡ record old { net = new.net }
+  pub net_event : tells → MovementIs movement.Close outcome old.net new.net
+
 -- an accepted reply leads to a data connection
 abbrev pub agrees : Ending → Bool
 agrees GivesAddress = true
@@ -468,12 +500,27 @@ Grows link all all' old new (poll.Ready (more.Failed kind)) = ReadsBy link old n
 Grows link all all' old new (poll.Ready more.NoMemory) = ReadsBy link old new came.NoMemory
 Grows link all all' old new poll.Pending = (all' ≡ all) × ((tree : Tree) → Still link tree tree old new) × link.asks_wait
 
+-- a whole file or listing begins: no byte was read or written yet, or there are more than can be sent
+abbrev pub StartsStore : Option ℕ → List ℕ → Stage → SessionValue → SessionValue → Step → Type 0
+StartsStore (Some total) bytes stage old new result = (result ≡ Next) × (stage ≡ Transferring (Sending total total bytes)) × (new ≡ old)
+StartsStore None bytes stage old new result = (result ≡ Done (Fault (ConnectionError SourceTooLarge))) × (new ≡ record old { state = with_abandoned old.state })
+
+abbrev pub StartsTask : Task → Stage → SessionValue → SessionValue → Step → Type 0
+StartsTask (tasks.Fetch form) stage old new result = (result ≡ Next) × (stage ≡ Transferring (Gathering form most_reads [])) × (new ≡ old)
+StartsTask (tasks.Store bytes) stage old new result =
+    let wire = wire_data old.state.settings.text bytes in
+    StartsStore (size_to_send wire) wire stage old new result
+
+-- the stage once all was read, or no more can be
+abbrev pub closing_with : Fetch → Answer → Stage
+closing_with form answer = Closing (Fetched form answer)
+
 -- what follows a read
-abbrev pub Follows : Coding → Fetch → ℕ → List ℕ → More → Fetched → Type 0
-Follows coding form left all more.Grew next = next ≡ (if nat_le (length all) most_bytes then fetch.Gathering form left all else fetch.ClosingData form (too_long form))
-Follows coding form left all more.Ended next = (next ≡ fetch.ClosingData form (fetched coding form all)) ⊎ (next ≡ fetch.ClosingData form (Fault OutOfMemory))
-Follows coding form left all (more.Failed kind) next = next ≡ fetch.ClosingData form (unfetched form kind)
-Follows coding form left all more.NoMemory next = next ≡ fetch.ClosingData form (Fault OutOfMemory)
+abbrev pub Follows : Coding → Fetch → ℕ → List ℕ → More → Stage → Type 0
+Follows coding form left all more.Grew next = next ≡ (if nat_le (length all) most_bytes then Transferring (Gathering form left all) else closing_with form (too_long form))
+Follows coding form left all more.Ended next = (next ≡ closing_with form (fetched coding form all)) ⊎ (next ≡ closing_with form (Fault OutOfMemory))
+Follows coding form left all (more.Failed kind) next = next ≡ closing_with form (unfetched form kind)
+Follows coding form left all more.NoMemory next = next ≡ closing_with form (Fault OutOfMemory)
 
 -- bytes were written to the data connection, from the front, and the rest is left; or that failed; or it is waited for
 abbrev pub Sends : Link → List ℕ → List ℕ → SessionValue → SessionValue → Result (Poll (Unit {0})) ErrorKind → Type 0

@@ -8,11 +8,12 @@ use Rattle.ftp_calls.specs.declared.call.Answer.{Answer}
 use Rattle.ftp_calls.specs.declared.call.Answer.TheVariants.{Fault}
 use Rattle.ftp_calls.specs.declared.call.Call.{Call}
 use Rattle.ftp_calls.specs.declared.exchange.Turn.{Turn}
-use Rattle.ftp_calls.specs.declared.exchange.Turn.TheVariants.{First, Second, Passive, ExtendedPassive, Active, Restart, Closed, Aborted}
+use Rattle.ftp_calls.specs.declared.exchange.Turn.TheVariants.{First}
 use Rattle.ftp_dialogue.specs.declared.state.State.{State}
 use Rattle.ftp_dialogue.specs.declared.stage.Stage.{Stage}
-use Rattle.ftp_dialogue.specs.declared.stage.Stage.TheVariants.{At, Saying, Hearing, Arming, Resyncing, OpeningData, Closing, Aborting, Transferring}
-use Rattle.ftp_dialogue.specs.declared.stage.Aborting.TheVariants.{Wording}
+use Rattle.ftp_dialogue.specs.declared.stage.Stage.TheVariants.{At, Composing, OpeningData, Closing}
+use Rattle.ftp_dialogue.specs.declared.stage.Recovery.TheVariants.{Abort}
+use Rattle.ftp_dialogue.specs.declared.stage.AfterClose.TheVariants.{Finishes}
 use Rattle.ftp_dialogue.specs.declared.stage.OpeningData.TheVariants.{Negotiating}
 use Rattle.ftp_dialogue.specs.State.{SessionValue}
 use Rattle.ftp_dialogue.specs.Coding.{Coding}
@@ -27,28 +28,15 @@ use Rattle.ftp_dialogue.specs.Link.{Link}
 -- nothing was made of a call yet
 abbrev pub is_first_turn : Turn → Bool
 is_first_turn First = true
-is_first_turn Second = false
-is_first_turn (Passive offset after) = false
-is_first_turn (ExtendedPassive offset tries) = false
-is_first_turn (Active address offset) = false
-is_first_turn (Restart offset) = false
-is_first_turn (Closed close) = false
-is_first_turn Aborted = false
+is_first_turn other = false
 
 abbrev pub is_first : Stage → Bool
 is_first (At turn) = is_first_turn turn
-is_first (Saying line a) = false
-is_first (Hearing a) = false
-is_first (Arming turn offset) = false
-is_first (Resyncing turn seeks) = false
-is_first (OpeningData opening_data) = false
-is_first Closing = false
-is_first (Aborting abort) = false
-is_first (Transferring fetching) = false
+is_first other = false
 
 -- where the end of a transfer begins: its data connection is closed, or ABOR goes out first
 abbrev pub last_stage : Call → Stage
-last_stage call = if aborts call then Aborting Wording else Closing
+last_stage call = if aborts call then Composing Abort else Closing Finishes
 
 -- where a call begins: one that opens a data connection takes the offset with it
 abbrev pub first_stage : Call → State → Stage

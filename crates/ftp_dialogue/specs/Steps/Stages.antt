@@ -3,6 +3,7 @@ use Rattle.std.specs.Prelude.{◌≡◌, ◌<◌, ◌-◌, ◌+◌, ◌⊎◌, �
 use Rattle.futures.specs.declared.task.Poll.{Poll}
 use Rattle.futures.specs.declared.task.Poll.TheVariants.{Ready, Pending}
 use Rattle.ftp_base.specs.declared.command.Command.{Command}
+use Rattle.ftp_base.specs.declared.command.Command.TheVariants.{Abor, Noop}
 use Rattle.ftp_base.specs.Command.{text_of}
 use Rattle.ftp_base.specs.Wire.{wire}
 use Rattle.ftp_base.specs.declared.types.fault.FtpError.{FtpError}
@@ -25,28 +26,31 @@ use Rattle.ftp_calls.specs.declared.exchange.Fetch.TheVariants.{Whole}
 use Rattle.ftp_calls.specs.declared.exchange.Task.{Task}
 use Rattle.ftp_dialogue.specs.declared.stage.Awaits.{Awaits}
 use Rattle.ftp_dialogue.specs.declared.stage.Stage.{Stage}
-use Rattle.ftp_dialogue.specs.declared.stage.Stage.TheVariants.{At, Saying, Hearing, Arming, Resyncing, OpeningData, Closing, Aborting, Transferring}
+use Rattle.ftp_dialogue.specs.declared.stage.Stage.TheVariants.{At, Composing, Saying, Hearing, Seeking, SettingOffset, OpeningData, Transferring, Closing}
+use Rattle.ftp_dialogue.specs.declared.stage.Recovery.{Recovery}
+use Rattle.ftp_dialogue.specs.declared.stage.Recovery.TheVariants.{Abort, Resync}
+use Rattle.ftp_dialogue.specs.declared.stage.AfterLine.{AfterLine}
+use Rattle.ftp_dialogue.specs.declared.stage.AfterLine.TheVariants.{Hears, Recovers}
+use Rattle.ftp_dialogue.specs.declared.stage.AfterClose.{AfterClose}
+use Rattle.ftp_dialogue.specs.declared.stage.AfterClose.TheVariants.{Finishes, Aborts, Fetched as FetchedAll}
 use Rattle.ftp_dialogue.specs.declared.stage.Transferring.{Transferring as Fetched}
 use Rattle.ftp_dialogue.specs.declared.stage.Transferring.TheVariants.{Starting, Gathering, Sending as SendingData, Ending}
-use Rattle.ftp_dialogue.specs.declared.stage.Transferring.TheVariants as fetch
 use Rattle.ftp_dialogue.specs.declared.stage.Opened.{Opened as Opening}
 use Rattle.ftp_dialogue.specs.declared.stage.Opened.TheVariants.{Gives as GivesAnswer, Performs}
 use Rattle.ftp_dialogue.specs.declared.stage.OpeningData.{OpeningData as Way}
 use Rattle.ftp_dialogue.specs.declared.stage.OpeningData.TheVariants.{Negotiating, Choosing, Locating, Binding, Asking}
-use Rattle.ftp_dialogue.specs.declared.stage.Aborting.{Aborting as Abort}
-use Rattle.ftp_dialogue.specs.declared.stage.Aborting.TheVariants.{Wording, Sending, ClosingData}
-use Rattle.ftp_dialogue.specs.declared.stage.Resyncing.{Resyncing as Resync}
-use Rattle.ftp_dialogue.specs.declared.stage.Resyncing.TheVariants as resync
 use Rattle.ftp_dialogue.specs.declared.stage.Asking.{Asking as Asked}
 use Rattle.ftp_dialogue.specs.declared.stage.Asking.TheVariants.{PeerPort, Connection, Peer, Accepting, Securing}
 use Rattle.ftp_dialogue.specs.declared.stage.Step.{Step}
 use Rattle.ftp_dialogue.specs.declared.stage.Step.TheVariants as step
 use Rattle.ftp_dialogue.specs.Coding.{Coding}
 use Rattle.ftp_dialogue.specs.Promises.{IsFault}
+use Rattle.ftp_dialogue.specs.Sound.{some_live}
+use Rattle.std.specs.declared.io.ErrorKind.{ErrorKind}
 use Rattle.ftp_calls.specs.declared.exchange.Row.{Row}
 use Rattle.ftp_calls.specs.declared.exchange.Row.TheVariants.{Exchanges, Arms, Resyncs}
 use Rattle.ftp_calls.specs.Exchanges.{row_of, aborting_row, aborts, finishes, is_local, is_read, negotiates, next_turn, Movements, Listings, Kind, kind_of_fetch, kind_of_task, Nothing, Replies, Texts, Times, Sizes, Lists, Connections, ending_of, given_by, says_of}
-use Rattle.ftp_dialogue.specs.Dialogue.{expected_of, Tree, Say, Look, Secure, There, Leaf, armed, awaiting, aborting, breaking_off, ends_search, closing, later, from_turn, negotiating, choosing, listening, listening_at, connecting_to, connecting_to_peer, accepting, fetch_ending, fetch_closing_data, gathering, most_reads, on_built, performing, resyncing, securing, seeking, most_passed_over, sending, strangers, with_transfer}
+use Rattle.ftp_dialogue.specs.Dialogue.{expected_of, Tree, Say, Look, Secure, There, Leaf, armed, awaiting, aborting, breaking_off, ends_search, closed_as, closing, later, from_turn, negotiating, choosing, listening, listening_at, connecting_to, connecting_to_peer, accepting, fetch_ending, fetch_closing_data, gathering, most_reads, on_built, performing, resyncing, securing, seeking, most_passed_over, sending, strangers, with_transfer}
 
 -- an exchange was made before
 abbrev pub is_later : Turn → Bool
@@ -96,37 +100,57 @@ way_of coding call state (Locating offset) = listening coding call offset state
 way_of coding call state (Binding local offset) = listening_at coding call offset state local
 way_of coding call state (Asking turn asking) = asking_of coding asking state (later coding call turn state)
 
--- what is left of an abort
-abbrev pub abort_left : Coding → Call → State → Abort → Tree
-abort_left coding call state Wording = aborting coding call state
-abort_left coding call state (Sending line) = Say (Ok (due line)) (breaking_off coding call state)
-abort_left coding call state ClosingData = breaking_off coding call state
+-- what is left where a command beside the exchanges is to be sent: ABOR, or NOOP
+abbrev pub recovering : Coding → Call → State → Recovery → Tree
+recovering coding call state Abort = aborting coding call state
+recovering coding call state (Resync turn) = resyncing coding state
 
--- what is left where the reply to NOOP is sought
-abbrev pub resync_left : Coding → State → Resync → Tree
-resync_left coding state resync.Wording = resyncing coding state
-resync_left coding state (resync.Sending line) = Say (Ok (due line)) (seeking most_passed_over state)
-resync_left coding state (resync.Seeking left) = seeking left state
+-- what is left once its line has gone out
+abbrev pub recovered : Coding → Call → State → Recovery → Tree
+recovered coding call state Abort = breaking_off coding call state
+recovered coding call state (Resync turn) = seeking most_passed_over state
+
+-- what is left once a line has gone out
+abbrev pub said_left : Coding → Call → State → AfterLine → Tree
+said_left coding call state (Hears a) = awaited coding call state a
+said_left coding call state (Recovers recovery) = recovered coding call state recovery
+
+-- what is left where the data connection is to be closed
+abbrev pub close_left : Coding → Call → State → AfterClose → Tree
+close_left coding call state Finishes = closing coding call state
+close_left coding call state Aborts = breaking_off coding call state
+close_left coding call state (FetchedAll form answer) = fetch_closing_data form answer state
 
 -- what is left where a whole file or listing goes over the data connection
 abbrev pub fetch_left : Coding → State → Fetched → Tree
 fetch_left coding state (Starting task) = performing coding task state
 fetch_left coding state (Gathering form left all) = gathering coding form left all state
 fetch_left coding state (SendingData left total rest) = sending left total rest state
-fetch_left coding state (fetch.ClosingData form answer) = fetch_closing_data form answer state
 fetch_left coding state (Ending form answer) = fetch_ending form answer state
 
 -- what is left of a call's dialogue
 abbrev pub remaining : Coding → Call → State → Stage → Tree
 remaining coding call state (At turn) = from_turn coding call turn state
-remaining coding call state (Saying line a) = Say (Ok (due line)) (awaited coding call state a)
+remaining coding call state (Composing recovery) = recovering coding call state recovery
+remaining coding call state (Saying line after) = Say (Ok (due line)) (said_left coding call state after)
 remaining coding call state (Hearing a) = awaited coding call state a
-remaining coding call state (Arming turn offset) = Leaf answer.Unit (armed offset state)
-remaining coding call state (Resyncing turn seeks) = resync_left coding state seeks
+remaining coding call state (Seeking turn left) = seeking left state
+remaining coding call state (SettingOffset turn offset) = Leaf answer.Unit (armed offset state)
 remaining coding call state (OpeningData opening_data) = way_of coding call state opening_data
-remaining coding call state Closing = closing coding call state
-remaining coding call state (Aborting abort) = abort_left coding call state abort
-remaining coding call state (Transferring fetching) = fetch_left coding state fetching
+remaining coding call state (Transferring transferring) = fetch_left coding state transferring
+remaining coding call state (Closing after) = close_left coding call state after
+
+-- the stage after a line that has gone out
+abbrev pub stage_said : AfterLine → Stage
+stage_said (Hears a) = Hearing (record a { begun = true })
+stage_said (Recovers Abort) = Closing Aborts
+stage_said (Recovers (Resync turn)) = Seeking turn most_passed_over
+
+-- the stage after a close, by its error, where that is told
+abbrev pub stage_closed : AfterClose → Option ErrorKind → Stage
+stage_closed Finishes told = At (Closed told)
+stage_closed Aborts told = At Aborted
+stage_closed (FetchedAll form answer) told = Transferring (Ending form (closed_as told answer))
 
 -- a reply was taken on that way
 abbrev pub has_asked : Way → Bool
@@ -136,39 +160,49 @@ has_asked (Locating offset) = false
 has_asked (Binding local offset) = false
 has_asked (Asking turn asking) = true
 
--- ABOR goes out, or has
-abbrev pub has_sent : Abort → Bool
-has_sent Wording = false
-has_sent (Sending None) = true
-has_sent (Sending (Some line)) = false
-has_sent ClosingData = true
-
 -- ABOR has gone out whole, where the call is an abort
 abbrev pub is_out : Stage → Bool
-is_out (Aborting Wording) = false
-is_out (Aborting (Sending line)) = false
+is_out (Composing recovery) = false
+is_out (Saying line (Recovers recovery)) = false
 is_out (At First) = false
 is_out stage = true
 
--- NOOP goes out, or has; or something was said or taken before
-abbrev pub has_sought : Bool → Resync → Bool
-has_sought before resync.Wording = before
-has_sought before (resync.Sending None) = true
-has_sought before (resync.Sending (Some line)) = before
-has_sought before (resync.Seeking left) = true
+-- the command beside the exchanges
+abbrev pub command_of : Recovery → Command
+command_of Abort = Abor
+command_of (Resync turn) = Noop
+
+-- beside a live transfer NOOP isn't sent
+abbrev pub is_barred : Recovery → State → Bool
+is_barred Abort state = false
+is_barred (Resync turn) state = some_live state.counts.owed
+
+-- something was said or taken before it, before a line, or before a close
+abbrev pub begun_for : Recovery → Bool
+begun_for Abort = false
+begun_for (Resync turn) = is_later turn
+
+abbrev pub begun_before : AfterLine → Bool
+begun_before (Hears a) = a.begun
+begun_before (Recovers recovery) = begun_for recovery
+
+abbrev pub begun_until : AfterClose → Bool
+begun_until Finishes = false
+begun_until Aborts = true
+begun_until (FetchedAll form answer) = true
 
 -- something of the dialogue was said or taken
 abbrev pub begun_at : Stage → Bool
 begun_at (At turn) = is_later turn
-begun_at (Saying None a) = true
-begun_at (Saying (Some line) a) = a.begun
+begun_at (Composing recovery) = begun_for recovery
+begun_at (Saying None after) = true
+begun_at (Saying (Some line) after) = begun_before after
 begun_at (Hearing a) = a.begun
-begun_at (Arming turn offset) = is_later turn
-begun_at (Resyncing turn seeks) = has_sought (is_later turn) seeks
+begun_at (Seeking turn left) = true
+begun_at (SettingOffset turn offset) = is_later turn
 begun_at (OpeningData opening_data) = has_asked opening_data
-begun_at Closing = false
-begun_at (Aborting abort) = has_sent abort
-begun_at (Transferring fetching) = true
+begun_at (Transferring transferring) = true
+begun_at (Closing after) = begun_until after
 
 -- the nodes that are left
 abbrev pub many : ℕ
@@ -198,33 +232,36 @@ nodes_of (Locating offset) = many + 60
 nodes_of (Binding local offset) = many + 50
 nodes_of (Asking turn asking) = nodes_asked asking turn
 
-abbrev pub nodes_of_abort : Abort → ℕ
-nodes_of_abort Wording = many + 33
-nodes_of_abort (Sending line) = many + 32
-nodes_of_abort ClosingData = many + 31
+abbrev pub nodes_of_recovery : Recovery → ℕ
+nodes_of_recovery Abort = many + 33
+nodes_of_recovery (Resync turn) = nodes_from turn - 1
 
-abbrev pub nodes_of_resync : Turn → Resync → ℕ
-nodes_of_resync turn resync.Wording = nodes_from turn - 1
-nodes_of_resync turn (resync.Sending line) = nodes_from turn - 2
-nodes_of_resync turn (resync.Seeking left) = left + 1
+abbrev pub nodes_said : AfterLine → ℕ
+nodes_said (Hears a) = nodes_from a.turn - 1
+nodes_said (Recovers Abort) = many + 32
+nodes_said (Recovers (Resync turn)) = nodes_from turn - 2
 
 abbrev pub nodes_of_fetch : Fetched → ℕ
 nodes_of_fetch (Starting task) = most_reads + 11
 nodes_of_fetch (Gathering form left all) = left + 10
 nodes_of_fetch (SendingData left total rest) = left + 10
-nodes_of_fetch (fetch.ClosingData form answer) = 5
 nodes_of_fetch (Ending form answer) = 4
+
+abbrev pub nodes_of_close : AfterClose → ℕ
+nodes_of_close Finishes = many + 30
+nodes_of_close Aborts = many + 31
+nodes_of_close (FetchedAll form answer) = 5
 
 abbrev pub nodes_left : Stage → ℕ
 nodes_left (At turn) = nodes_from turn
-nodes_left (Saying line a) = nodes_from a.turn - 1
+nodes_left (Composing recovery) = nodes_of_recovery recovery
+nodes_left (Saying line after) = nodes_said after
 nodes_left (Hearing a) = nodes_from a.turn - 2
-nodes_left (Arming turn offset) = nodes_from turn - 1
-nodes_left (Resyncing turn seeks) = nodes_of_resync turn seeks
+nodes_left (Seeking turn left) = left + 1
+nodes_left (SettingOffset turn offset) = nodes_from turn - 1
 nodes_left (OpeningData opening_data) = nodes_of opening_data
-nodes_left Closing = many + 30
-nodes_left (Aborting abort) = nodes_of_abort abort
-nodes_left (Transferring fetching) = nodes_of_fetch fetching
+nodes_left (Transferring transferring) = nodes_of_fetch transferring
+nodes_left (Closing after) = nodes_of_close after
 
 -- the line of a command, where there is one
 abbrev pub line_of : Coding → Option Command → Result (List ℕ) Cause
@@ -236,15 +273,9 @@ abbrev pub awaits_of : Turn → Exchange → Awaits
 awaits_of turn exchange = record { turn = turn; begun = is_later turn; hears = exchange.hears; ending = exchange.ending }
 
 abbrev pub NodeOf : Coding → Turn → Exchange → Stage → Type 0
-NodeOf coding turn exchange (At other) = ⊥
-NodeOf coding turn exchange (Saying line a) = (line_of coding exchange.says ≡ Ok (due line)) × (is_none line ≡ false) × (is_none exchange.says ≡ false) × (a ≡ awaits_of turn exchange)
+NodeOf coding turn exchange (Saying line (Hears a)) = (line_of coding exchange.says ≡ Ok (due line)) × (is_none line ≡ false) × (is_none exchange.says ≡ false) × (a ≡ awaits_of turn exchange)
 NodeOf coding turn exchange (Hearing a) = (exchange.says ≡ None) × (a ≡ awaits_of turn exchange)
-NodeOf coding turn exchange (Arming other offset) = ⊥
-NodeOf coding turn exchange (Resyncing other seeks) = ⊥
-NodeOf coding turn exchange (OpeningData opening_data) = ⊥
-NodeOf coding turn exchange Closing = ⊥
-NodeOf coding turn exchange (Aborting abort) = ⊥
-NodeOf coding turn exchange (Transferring fetching) = ⊥
+NodeOf coding turn exchange other = ⊥
 
 -- an exchange doesn't begin: its line is refused, or there is no memory; what is said of an abort takes none
 abbrev pub NotBegun : Coding → Row → FtpError → Type 0
@@ -313,7 +344,6 @@ abbrev pub FetchOf : Call → Fetched → Type 0
 FetchOf call (Starting task) = MayPerform call task
 FetchOf call (Gathering form left all) = MayFetch call form
 FetchOf call (SendingData left total rest) = MayFetch call Whole
-FetchOf call (fetch.ClosingData form answer) = MayFetch call form × AnswersKind (kind_of_fetch form) answer
 FetchOf call (Ending form answer) = MayFetch call form × AnswersKind (kind_of_fetch form) answer
 
 abbrev pub WayOf : Call → Way → Type 0
@@ -323,17 +353,35 @@ WayOf call (Locating offset) = Unit {0}
 WayOf call (Binding local offset) = Unit {0}
 WayOf call (Asking turn asking) = AskingOf call asking
 
+-- a reply is awaited
+abbrev pub AwaitsOf : Call → Awaits → Type 0
+AwaitsOf call a = (ending_of (row_of call a.turn) ≡ Some a.ending) × (a.begun ≡ true → is_read call ≡ false) × TurnOf call a.turn
+
+-- a command beside the exchanges; what follows a line; and what follows a close
+abbrev pub RecoveryOf : Call → Recovery → Type 0
+RecoveryOf call Abort = aborts call ≡ true
+RecoveryOf call (Resync turn) = (row_of call turn ≡ Resyncs) × TurnOf call turn
+
+abbrev pub SaidOf : Call → AfterLine → Type 0
+SaidOf call (Hears a) = (ending_of (row_of call a.turn) ≡ Some a.ending) × (is_read call ≡ false) × TurnOf call a.turn
+SaidOf call (Recovers recovery) = RecoveryOf call recovery
+
+abbrev pub CloseOf : Call → AfterClose → Type 0
+CloseOf call Finishes = finishes call ≡ true
+CloseOf call Aborts = aborts call ≡ true
+CloseOf call (FetchedAll form answer) = FetchOf call (Ending form answer)
+
 -- the stages of a call; a plain read says nothing
 abbrev pub StageOf : Call → Stage → Type 0
 StageOf call (At turn) = TurnOf call turn
-StageOf call (Saying line a) = (ending_of (row_of call a.turn) ≡ Some a.ending) × (is_read call ≡ false) × TurnOf call a.turn
-StageOf call (Hearing a) = (ending_of (row_of call a.turn) ≡ Some a.ending) × (a.begun ≡ true → is_read call ≡ false) × TurnOf call a.turn
-StageOf call (Arming turn offset) = (row_of call turn ≡ Arms offset) × TurnOf call turn
-StageOf call (Resyncing turn seeks) = (row_of call turn ≡ Resyncs) × TurnOf call turn
+StageOf call (Composing recovery) = RecoveryOf call recovery
+StageOf call (Saying line after) = SaidOf call after
+StageOf call (Hearing a) = AwaitsOf call a
+StageOf call (Seeking turn left) = (row_of call turn ≡ Resyncs) × TurnOf call turn
+StageOf call (SettingOffset turn offset) = (row_of call turn ≡ Arms offset) × TurnOf call turn
 StageOf call (OpeningData opening_data) = (negotiates call ≡ true) × WayOf call opening_data
-StageOf call Closing = finishes call ≡ true
-StageOf call (Aborting abort) = aborts call ≡ true
-StageOf call (Transferring fetching) = FetchOf call fetching
+StageOf call (Transferring transferring) = FetchOf call transferring
+StageOf call (Closing after) = CloseOf call after
 
 -- where a call stands after a step that doesn't end it
 abbrev pub StageAfter : Call → Stage → Step → Type 0
@@ -370,7 +418,7 @@ GoesOnTo call turn stage (step.Done last) = (next_turn call turn ≡ None) × (l
 -- what follows another reply than that to NOOP, or an error in its place
 abbrev pub FollowsSought : Turn → ℕ → FtpError → Stage → Step → Type 0
 FollowsSought turn left fault stage step.Next =
-    (rest : ℕ) × (reply : Response) × (left ≡ suc rest) × (fault ≡ UnexpectedResponse reply) × (ends_search reply ≡ false) × (stage ≡ Resyncing turn (resync.Seeking rest))
+    (rest : ℕ) × (reply : Response) × (left ≡ suc rest) × (fault ≡ UnexpectedResponse reply) × (ends_search reply ≡ false) × (stage ≡ Seeking turn rest)
 FollowsSought turn left fault stage step.Pending = ⊥
 FollowsSought turn left fault stage (step.Done last) =
     (last ≡ answer.Fault fault) × ((reply : Response) → fault ≡ UnexpectedResponse reply → (left ≡ 0) ⊎ (ends_search reply ≡ true))

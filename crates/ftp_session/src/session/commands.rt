@@ -34,7 +34,7 @@ use ftp_base::status::Status;
 use ftp_base::types::{FileType, FtpError, FtpResult, Response};
 use ftp_calls::call::BorrowedCall;
 use ftp_calls::exchange::Codes;
-use ftp_dialogue::asks::Nothing;
+use ftp_dialogue::data_path::NoData;
 use ftp_transport::{Conn, Network};
 use jiff::civil::DateTime;
 use std::alloc::{AllocError, Global};
@@ -60,7 +60,7 @@ where
     {
         let answer = self
             .machine
-            .call_alone(&Nothing, alloc, &self.encoding, &Call::Greet);
+            .call_alone(&NoData, alloc, &self.encoding, &Call::Greet);
         self.machine.holds();
         unit(answer)
     }
@@ -383,7 +383,7 @@ where
     {
         look(&mut self.machine, &mut self.mark);
         self.machine
-            .call_in_step(&Nothing, alloc, &self.encoding, call)
+            .call_in_step(&NoData, alloc, &self.encoding, call)
     }
 
     /// Makes a call with arguments of its own. Where memory runs out for them nothing happens.

@@ -18,7 +18,7 @@ use super::polling::DropsCalls;
 use super::{Answer, Call};
 use ftp_base::encoding::Encoding;
 use ftp_base::types::{ConnectionError, FtpError, FtpResult};
-use ftp_dialogue::asks::Nothing;
+use ftp_dialogue::data_path::NoData;
 use ftp_dialogue::machine::Machine;
 use ftp_transfer::mark::{Left, SessionEnd};
 use ftp_transfer::{Transfer, TransferParts};
@@ -49,7 +49,7 @@ where
         match take_back(self, transfer) {
             Ok(()) => ended(
                 self.machine
-                    .call_alone(&Nothing, alloc, &self.encoding, &Call::Finish),
+                    .call_alone(&NoData, alloc, &self.encoding, &Call::Finish),
             ),
             Err(fault) => Err(fault),
         }
@@ -75,7 +75,7 @@ where
         match take_back(self, transfer) {
             Ok(()) => ended(
                 self.machine
-                    .call_alone(&Nothing, alloc, &self.encoding, &Call::Abort),
+                    .call_alone(&NoData, alloc, &self.encoding, &Call::Abort),
             ),
             Err(fault) => Err(fault),
         }

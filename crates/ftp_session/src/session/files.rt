@@ -18,7 +18,7 @@ use super::polling::DropsCalls;
 use super::{Answer, Call};
 use ftp_base::encoding::Encoding;
 use ftp_base::types::{FtpError, FtpResult};
-use ftp_dialogue::asks::Nothing;
+use ftp_dialogue::data_path::NoData;
 use ftp_transfer::{NoProgress, Progress, Transfer, Watch};
 use ftp_transport::{Conn, Network, PassiveStreamBuilder, Transport};
 use std::alloc::Global;
@@ -343,7 +343,7 @@ where
         match copied {
             Ok(count) => unless_failed(count, self.finish_held(alloc)),
             Err(fault) => {
-                pass_over(self.machine.carry(alloc, &Call::Leave));
+                pass_over(self.machine.local_call(alloc, &Call::Leave));
                 Err(fault)
             }
         }
@@ -398,7 +398,7 @@ where
     {
         let ended = ended(
             self.machine
-                .call_alone(&Nothing, alloc, &self.encoding, &Call::Finish),
+                .call_alone(&NoData, alloc, &self.encoding, &Call::Finish),
         );
         self.fail_if(lacks_memory(&ended));
         ended

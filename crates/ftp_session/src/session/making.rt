@@ -10,7 +10,7 @@ ghost use Rattle.ftp_dialogue.specs.Steps.Moving.{MadeDrained};
 use super::{Answer, Call};
 use ftp_base::encoding::Encoding;
 use ftp_calls::exchange::is_local;
-use ftp_dialogue::asks::By;
+use ftp_dialogue::data_path::BlockingData;
 use ftp_dialogue::machine::Machine;
 use ftp_transport::{Conn, Network, PassiveStreamBuilder, Transport};
 use std::alloc::Global;
@@ -31,9 +31,9 @@ where
         (coding_of E.decoded E.encoded encoding.now) call.now machine.old machine.new result }
 {
     if is_local(call) {
-        machine.carry(alloc, call)
+        machine.local_call(alloc, call)
     } else {
-        machine.call(&By(rt, builder), alloc, encoding, call)
+        machine.call(&BlockingData(rt, builder), alloc, encoding, call)
     }
 }
 
@@ -54,5 +54,5 @@ where
     ensures made { PlaysInStep (asking (built_by B.answers builder.now) ⊥ (blocking Tr.Conn.Conn))
         (coding_of E.decoded E.encoded encoding.now) call.now machine.old machine.new result }
 {
-    machine.call_in_step(&By(rt, builder), alloc, encoding, call)
+    machine.call_in_step(&BlockingData(rt, builder), alloc, encoding, call)
 }

@@ -24,7 +24,7 @@ use super::{Answer, Call};
 use ftp_base::encoding::Encoding;
 use ftp_base::types::{ConnectionError, FtpError};
 use ftp_calls::exchange::{Turn, drains, is_local};
-use ftp_dialogue::asks::InTask;
+use ftp_dialogue::data_path::PolledData;
 use ftp_dialogue::machine::Machine;
 use ftp_dialogue::stage::Stage;
 use ftp_dialogue::unless_unit;
@@ -319,8 +319,8 @@ where
         stage.new behind.new machine.old machine.new result }
 {
     *behind = false;
-    if machine.is_behind(call) {
-        match machine.poll_catch_up(alloc, call, w) {
+    if machine.reads_dropped_first(call) {
+        match machine.poll_dropped_replies(alloc, call, w) {
             Poll::Pending => {
                 *behind = true;
                 return Poll::Pending;
@@ -368,7 +368,7 @@ where
             }
         }
     }
-    machine.poll_started(&InTask(rt, builder), alloc, encoding, call, stage, w)
+    machine.poll_started(&PolledData(rt, builder), alloc, encoding, call, stage, w)
 }
 
 /// Polls the last reply of a transfer that was left. Where it waits, what came of it stays, and the next poll resumes there.
@@ -390,7 +390,7 @@ where
 {
     let mut stage = Stage::At(Turn::First);
     let drained = machine.poll_started(
-        &InTask(rt, builder),
+        &PolledData(rt, builder),
         alloc,
         encoding,
         &Call::Drain,

@@ -7,7 +7,7 @@ returns c =
     let held = c.holds_memory.ensures in
     record {
       leaves = elim c.if-holds_transfer.branch [
-        | then-holds_transfer w ↦ has_left c.args.machine.now c.if-holds_transfer.machine w.carry.result (rw c.holds_transfer.ensures at w.if-holds_transfer.true) (rw (← w.machine-is) at w.carry.ensures.carries) held.given held.sound
+        | then-holds_transfer w ↦ has_left c.args.machine.now c.if-holds_transfer.machine w.local_call.result (rw c.holds_transfer.ensures at w.if-holds_transfer.true) (rw (← w.machine-is) at w.local_call.ensures.carries) held.given held.sound
         | else-holds_transfer w ↦ has_none c.args.machine.now c.if-holds_transfer.machine (rw c.holds_transfer.ensures at w.if-holds_transfer.false) w.machine-is held.given held.sound
       ];
     }

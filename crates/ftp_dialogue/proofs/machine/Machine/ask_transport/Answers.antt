@@ -1,14 +1,13 @@
 use Rattle.std.proofs.Common.{◌≡◌, refl}
 use Rattle.ftp_transport.specs.Waits.{first_over}
 use Rattle.ftp_transport.specs.declared.waiting.Waiting.{Waiting}
-use Rattle.ftp_transport.specs.declared.waiting.Waiting.TheVariants.{Nothing, Registered, Over}
+use Rattle.ftp_transport.specs.declared.waiting.Waiting.TheVariants.{Nothing}
 use Rattle.ftp_dialogue.proofs.machine.Machine.ask_transport.Goals as goal
 
 -- the last that is asked decides where nothing is waited for elsewhere
 last_decides : (waiting : Waiting) → waiting ≡ first_over waiting Nothing
 last_decides Nothing = refl
-last_decides Registered = refl
-last_decides Over = refl
+last_decides other = refl
 
 pub returns-clause-asks : goal.returns-clause-asks
 returns-clause-asks g c = (

@@ -1,4 +1,4 @@
-use Rattle.std.proofs.Common.{◌≡◌, true, false, inl, sym, ◌∙◌}
+use Rattle.std.proofs.Common.{inl}
 use Rattle.ftp_dialogue.specs.declared.stage.Stage.TheVariants.{Hearing}
 use Rattle.ftp_dialogue.specs.Dialogue.{Leaf}
 use Rattle.ftp_calls.specs.declared.call.Answer.TheVariants.{Unit}
@@ -17,8 +17,8 @@ returns-in-Ready-Ok-clause-makes g c =
     let accepts = heard (concluded coding c.args.awaits.ending c.args.self.now.state (later coding c.args.call.now c.args.awaits.turn)) in
     record {
       steps = concludes _ coding c.args.call.now c.args.awaits _ _ _ _ _ _ c.requires.going accepts.0 accepts.1 c.accept_reply.ensures.concludes;
-      quiet = begun_is_quiet (built_beside (g.A.Asks.builds c.args.asker.now) g.Tr.Conn.Tells.secures g.Tr.Conn.Tells.tells g.Tr.Conn.PollConn.read_faults g.Tr.Conn.PollConn.write_faults g.Tr.Conn.Tells.end_faults g.A.Asks.may_wait) coding c.args.call.now (Hearing c.args.awaits) c.accept_reply.new.stage c.args.self.now c.accept_reply.new.self c.accept_reply.result c.accept_reply.ensures.goes_on;
-      begun = accepted_begins (built_beside (g.A.Asks.builds c.args.asker.now) g.Tr.Conn.Tells.secures g.Tr.Conn.Tells.tells g.Tr.Conn.PollConn.read_faults g.Tr.Conn.PollConn.write_faults g.Tr.Conn.Tells.end_faults g.A.Asks.may_wait) coding c.args.call.now c.args.awaits _ _ c.args.self.now c.hear_codes.new.self _ _ accepts.1 c.accept_reply.ensures.goes_on c.accept_reply.ensures.concludes;
+      quiet = begun_is_quiet (built_beside (g.A.DataPath.builds c.args.data_path.now) g.Tr.Conn.Tells.secures g.Tr.Conn.Tells.tells g.Tr.Conn.PollConn.read_faults g.Tr.Conn.PollConn.write_faults g.Tr.Conn.Tells.end_faults g.A.DataPath.may_wait) coding c.args.call.now (Hearing c.args.awaits) c.accept_reply.new.stage c.args.self.now c.accept_reply.new.self c.accept_reply.result c.accept_reply.ensures.goes_on;
+      begun = accepted_begins (built_beside (g.A.DataPath.builds c.args.data_path.now) g.Tr.Conn.Tells.secures g.Tr.Conn.Tells.tells g.Tr.Conn.PollConn.read_faults g.Tr.Conn.PollConn.write_faults g.Tr.Conn.Tells.end_faults g.A.DataPath.may_wait) coding c.args.call.now c.args.awaits _ _ c.args.self.now c.hear_codes.new.self _ _ accepts.1 c.accept_reply.ensures.goes_on c.accept_reply.ensures.concludes;
       answers = c.accept_reply.ensures.answers;
       fewer = c.accept_reply.ensures.fewer;
       stage_of = c.accept_reply.ensures.stage;
@@ -46,7 +46,7 @@ returns-in-Pending-clause-makes g c =
     rw c.go_to.ensures (record {
       steps = (waits.0, waits.1);
       quiet = tt;
-      begun = (λ has. inl has, λ none. (none, rests_untouched (built_beside (g.A.Asks.builds c.args.asker.now) g.Tr.Conn.Tells.secures g.Tr.Conn.Tells.tells g.Tr.Conn.PollConn.read_faults g.Tr.Conn.PollConn.write_faults g.Tr.Conn.Tells.end_faults g.A.Asks.may_wait) c.args.self.now c.hear_codes.new.self waits.2));
+      begun = (λ has. inl has, λ none. (none, rests_untouched (built_beside (g.A.DataPath.builds c.args.data_path.now) g.Tr.Conn.Tells.secures g.Tr.Conn.Tells.tells g.Tr.Conn.PollConn.read_faults g.Tr.Conn.PollConn.write_faults g.Tr.Conn.Tells.end_faults g.A.DataPath.may_wait) c.args.self.now c.hear_codes.new.self waits.2));
       answers = tt;
       fewer = λ is. cc;
       stage_of = c.requires.stage;

@@ -1,7 +1,7 @@
 use Rattle.std.proofs.Common.{inl}
 use Rattle.ftp_dialogue.proofs.CarryingLemmas.{did_leave, did_read, did_set, did_write}
-use Rattle.ftp_dialogue.proofs.machine.Machine.carry.Goals as goal
-use Rattle.ftp_dialogue.proofs.machine.Machine.carry.Goals.{in-Set, in-Read, in-Write, in-Leave}
+use Rattle.ftp_dialogue.proofs.machine.Machine.local_call.Goals as goal
+use Rattle.ftp_dialogue.proofs.machine.Machine.local_call.Goals.{in-Set, in-Read, in-Write, in-Leave}
 
 pub returns-in-Some : goal.returns-in-Some
 returns-in-Some g c = record { carries = inl (c.refuse.ensures.refused c.in-Some.answer c.in-Some.is) }

@@ -24,7 +24,7 @@ use std::net::SocketAddr;
 use std::time::Duration;
 
 /// What asks a transport, and a builder, for the machine.
-pub trait Asks<Tr: Network, W> {
+pub trait DataPath<Tr: Network, W> {
     /// Whether it may be used.
     ghost may_ask: { Type 0 };
 
@@ -122,10 +122,10 @@ pub trait Asks<Tr: Network, W> {
 
 /// Asks by a runtime, and a builder, where there is one. Data connections are read and written blocking.
 #[derive(Drop)]
-pub struct By<'r, R, B>(pub &'r R, pub &'r Option<B>);
+pub struct BlockingData<'r, R, B>(pub &'r R, pub &'r Option<B>);
 
-impl<'r, R, W, Tr: PollTransport<R, W>, B: PassiveStreamBuilder<Tr::Conn>> Asks<Tr, W>
-    for By<'r, R, B>
+impl<'r, R, W, Tr: PollTransport<R, W>, B: PassiveStreamBuilder<Tr::Conn>> DataPath<Tr, W>
+    for BlockingData<'r, R, B>
 where
     Tr::Conn: Conn,
 {
@@ -214,12 +214,12 @@ where
     }
 }
 
-/// Asks as `By` does, and reads and writes data connections by polls, which may have to wait.
+/// Asks as `BlockingData` does, and reads and writes data connections by polls, which may have to wait.
 #[derive(Drop)]
-pub struct InTask<'r, R, B>(pub &'r R, pub &'r Option<B>);
+pub struct PolledData<'r, R, B>(pub &'r R, pub &'r Option<B>);
 
-impl<'r, R, W, Tr: PollTransport<R, W>, B: PassiveStreamBuilder<Tr::Conn>> Asks<Tr, W>
-    for InTask<'r, R, B>
+impl<'r, R, W, Tr: PollTransport<R, W>, B: PassiveStreamBuilder<Tr::Conn>> DataPath<Tr, W>
+    for PolledData<'r, R, B>
 where
     Tr::Conn: PollConn<W>,
 {
@@ -305,9 +305,9 @@ where
 
 /// Asks nothing: what the calls are passed that open no data connection.
 #[derive(Drop)]
-pub struct Nothing;
+pub struct NoData;
 
-impl<Tr: Network, W> Asks<Tr, W> for Nothing {
+impl<Tr: Network, W> DataPath<Tr, W> for NoData {
     ghost may_ask = { ⊥ };
 
     ghost may_wait = { ⊥ };

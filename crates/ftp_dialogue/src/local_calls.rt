@@ -3,25 +3,22 @@
 //! Such a call sends no command and reads no reply, so a session that has failed makes it, too, and it never waits.
 
 ghost use Rattle.std.specs.Prelude.{◌≡◌, ◌<◌, ℕ, length, None, Some, is_none, true, false};
-ghost use Rattle.ftp_calls.specs.Exchanges.{finishes, is_local};
+ghost use Rattle.ftp_calls.specs.Exchanges.{is_local};
 ghost use Rattle.ftp_calls.specs.declared.exchange.Movement.TheVariants as movement;
-ghost use Rattle.ftp_dialogue.specs.Coding.{Coding};
-ghost use Rattle.ftp_dialogue.specs.NetEvents.{MovementIs, ReadIs, WriteIs, answers};
-ghost use Rattle.ftp_dialogue.specs.Dialogue.{moved_answer, told_of_close};
-ghost use Rattle.ftp_dialogue.specs.Link.{asking, polling};
+ghost use Rattle.ftp_dialogue.specs.NetEvents.{ReadIs, WriteIs, answers};
+ghost use Rattle.ftp_dialogue.specs.Dialogue.{moved_answer};
 ghost use Rattle.ftp_dialogue.specs.Play.{Taken, lacks};
 ghost use Rattle.ftp_dialogue.specs.Promises.{IsRefused, LeavesIf, refusal_of};
-ghost use Rattle.ftp_dialogue.specs.Steps.Moving.{Carries, CarriesOut, Sets, MakesStep};
+ghost use Rattle.ftp_dialogue.specs.Steps.Moving.{Carries, CarriesOut, Sets};
 
-use super::asks::Asks;
+use super::closing::pass_over;
 use super::gathered::fitted;
 use super::machine::Machine;
-use super::stage::{Stage, Step, go_to};
 use super::{Answer, Call, Owed, Setting, rule_by};
 use crate::model::NetOutcome;
 use ftp_base::types::{Bytes, ConnectionError, FtpError};
-use ftp_calls::exchange::{Turn, drains, finishes, is_local, of_transfer};
-use ftp_transport::{Conn, Network, PollConn, Tells};
+use ftp_calls::exchange::{drains, finishes, is_local, of_transfer};
+use ftp_transport::{Conn, Network, Tells};
 use std::alloc::Global;
 use std::io::ErrorKind;
 
@@ -65,67 +62,6 @@ impl<Tr: Network> Machine<Tr> {
         self.state.counts.leave();
         pass_over(self.close_data());
     }
-
-    /// Closes the data connection, where there is one, and hands it back to the transport.
-    pub(super) fn close_data(&mut self) -> NetOutcome
-        ensures beside { self.new ≡ record self.old { net = self.new.net } }
-        ensures closes { Tr.Conn.tells →
-            MovementIs movement.Close result self.old.net self.new.net }
-    {
-        let Some(mut conn) = self.data_conn.take() else {
-            return NetOutcome::Closed;
-        };
-        let outcome = match conn.close() {
-            Ok(()) => NetOutcome::Closed,
-            Err(kind) => {
-                self.failures.note_data(true);
-                NetOutcome::Failed(kind)
-            }
-        };
-        self.transport.closed(conn);
-        outcome
-    }
-
-    /// The data connection is closed, and the transfer's last reply is due.
-    pub(super) fn close<W, A: Asks<Tr, W>>(
-        &mut self,
-        _asker: &A,
-        _call: &Call,
-        stage: &mut Stage,
-        _w: &mut W,
-    ) -> Step
-    where
-        Tr::Conn: PollConn<W>,
-        requires going { self.old.channel.failed ≡ false }
-        requires finishes { finishes _call.now ≡ true }
-        ensures moves { result ≡ Step.Pending → ⊥ }
-        ensures end { self.new.channel.ended ≡ self.old.channel.ended }
-        ensures makes { (coding : Coding) →
-            MakesStep (asking (A.builds _asker.now) A.may_wait (polling Tr.Conn.PollConn)) coding
-            _call.now
-            Stage.Closing stage.new self.old self.new result }
-    {
-        let outcome = self.close_data();
-        let told = told_of_close(self.state.uploads, &outcome);
-        drop(outcome);
-        go_to(stage, Stage::At(Turn::Closed(told)));
-        Step::Next
-    }
-}
-
-/// What a close resulted in is discarded.
-pub(super) fn pass_over(outcome: NetOutcome) {
-    drop(outcome);
-}
-
-/// The error of a close that goes before the reply's: that of an upload.
-pub(super) fn told_of_close(uploads: bool, outcome: &NetOutcome) -> Option<ErrorKind>
-    ensures { result ≡ told_of_close uploads outcome.now }
-{
-    match outcome {
-        NetOutcome::Failed(kind) if uploads => Some(*kind),
-        _ => None,
-    }
 }
 
 impl<Tr: Network> Machine<Tr>
@@ -137,7 +73,7 @@ where
     ///
     /// Returns `NoTransfer` where it is of a transfer and no data connection is held; `OutOfMemory` where there is
     /// no memory for a setting or for the bytes that are read; the error of the read or of the write.
-    pub fn carry(&mut self, alloc: Global, call: &Call) -> Answer
+    pub fn local_call(&mut self, alloc: Global, call: &Call) -> Answer
         requires local { is_local call.now ≡ true }
         ensures carries { CarriesOut Tr.Conn.tells call.now self.old self.new result }
     {

@@ -1,5 +1,5 @@
 use Rattle.std.proofs.Common.{rules}
-use Rattle.refusals.proofs.machine.poll_catch_up.Goals as goal
+use Rattle.refusals.proofs.machine.poll_dropped_replies.Goals as goal
 
 pub returns-clause-waits : goal.returns-clause-waits
 returns-clause-waits g c = search rules
