@@ -1,7 +1,7 @@
 -- Lemmas on calls that are dropped.
 use Rattle.std.proofs.Common.{◌≡◌, ◌&&◌, ◌||◌, not, Bool, true, false, Option, Some, None, inl, inr, refl, ap}
 use Rattle.ftp_calls.specs.declared.call.Call.{Call}
-use Rattle.ftp_calls.specs.declared.call.Call.TheVariants.{Greet, Login, Cwd, Cdup, Pwd, Noop, Resync, Eprt, Opts, Site, TransferType, Mkdir, Rmdir, Rm, Rename, Quit, Mlst, Mdtm, SetModified, Size, Feat, CustomCommand, ReadResponse, ReadResponseIn, ResumeTransfer, RetrAsStream, PutWithStream, AppendWithStream, CustomDataCommand, Retr, List as Listing, Nlst, Mlsd, PutFile, AppendFile, Set, Read, Write, Finish, Abort, Leave, Drain}
+use Rattle.ftp_calls.specs.declared.call.Call.TheVariants.{Finish, Abort}
 use Rattle.ftp_calls.specs.Exchanges.{aborts, finishes, is_read}
 use Rattle.ftp_runs.specs.Script.{drops_begun, MayCancel}
 
