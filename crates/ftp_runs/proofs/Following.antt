@@ -58,7 +58,7 @@ use Rattle.ftp_dialogue.specs.Sound.{some_live}
 use Rattle.ftp_dialogue.specs.Dialogue.{seeking}
 use Rattle.ftp_dialogue.specs.Dialogue.{most_passed_over}
 use Rattle.ftp_base.specs.declared.types.fault.FtpError.TheVariants.{DataConnectionAlreadyOpen}
-use Rattle.ftp_dialogue.proofs.ResyncLemmas.{seeking_is}
+use Rattle.ftp_dialogue.proofs.RecoveringLemmas.{seeking_is}
 use Rattle.ftp_calls.specs.declared.call.Answer.TheVariants.{Fault}
 use Rattle.ftp_dialogue.specs.Dialogue.{Leaf}
 use Rattle.ftp_dialogue.specs.Sound.{cannot_open}

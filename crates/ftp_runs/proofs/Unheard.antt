@@ -54,7 +54,7 @@ use Rattle.ftp_dialogue.specs.Dialogue.{resyncing}
 use Rattle.ftp_dialogue.specs.Dialogue.{sought}
 use Rattle.ftp_dialogue.specs.Dialogue.{expecting}
 use Rattle.ftp_base.specs.declared.status.Status.TheVariants.{CommandOk}
-use Rattle.ftp_dialogue.proofs.ResyncLemmas.{others, seeking_is}
+use Rattle.ftp_dialogue.proofs.RecoveringLemmas.{others, seeking_is}
 use Rattle.ftp_dialogue.specs.declared.stage.AfterClose.TheVariants.{Finishes, Aborts, Fetched as FetchedAll}
 use Rattle.ftp_dialogue.specs.declared.stage.AfterLine.TheVariants.{Hears, Recovers}
 use Rattle.ftp_dialogue.specs.declared.stage.Recovery.TheVariants.{Abort, Resync}
